@@ -1,0 +1,1 @@
+// Document 01's examples are theorems about the definitions: see specs/.

@@ -1,0 +1,16 @@
+-- What a request brings, and what the firmware holds.
+-- Assumes nothing.
+use Prim.Native.Nat.{ℕ}
+use mathlib.Core.List.{List}
+use Rattle.frame.specs.declared.Address.{Address}
+
+-- the frame, our own address, the level of whoever asks
+pub record Asked : Type 0 where
+  pub frame : List ℕ
+  pub us : Address
+  pub level : ℕ
+
+-- the store and the clock's seven bytes
+pub record Held : Type 0 where
+  pub store : List ℕ
+  pub clock : List ℕ

@@ -1,0 +1,1 @@
+// The store: what a parameter holds, a value stored, the fill.

@@ -1,0 +1,4 @@
+pub mod Kinds
+pub mod Judged
+pub mod Pairs
+pub mod Number
