@@ -1,4 +1,12 @@
 // The point types: a row for each parameter, and where each lies in the store.
+mod columns;
+
+ghost use mathlib.Core.Path.{_≡_};
+ghost use Prim.Native.Nat.{_+_, _<_, _≤_};
+ghost use lib.ListN.{getD};
+ghost use Rattle.points.specs.Types.{indexOf, point, height, logicals, gateway};
+ghost use Rattle.points.specs.Place.{first, base, each, placeOf};
+ghost use Rattle.points.specs.Columns.{rowAt, rowKind, rowAccess, rowRange, rowLeast, rowMost, readLevels, writeLevels, beginnings};
 
 // A point type, a logical, a parameter and a count are four kinds of number.
 pub struct PointType(pub u8);
@@ -15,4 +23,144 @@ pub enum Place {
     NoType,
     NoLogical,
     NoParameter,
+}
+
+// The columns by row.
+pub fn length_at(row: usize) -> u8
+    requires { ⌜ row < 175 ⌝ }
+    ensures { λ r. ⌜ r ≡ rowAt row .len ⌝ }
+{
+    columns::lengths::LENGTHS[row]
+}
+
+pub fn kind_at(row: usize) -> u8
+    requires { ⌜ row < 175 ⌝ }
+    ensures { λ r. ⌜ r ≡ rowKind (rowAt row) ⌝ }
+{
+    columns::kinds::KINDS[row]
+}
+
+pub fn access_at(row: usize) -> u8
+    requires { ⌜ row < 175 ⌝ }
+    ensures { λ r. ⌜ r ≡ rowAccess (rowAt row) ⌝ }
+{
+    columns::access::ACCESS[row]
+}
+
+pub fn range_at(row: usize) -> u8
+    requires { ⌜ row < 175 ⌝ }
+    ensures { λ r. ⌜ r ≡ rowRange (rowAt row) ⌝ }
+{
+    columns::ranges::RANGES[row]
+}
+
+pub fn least_at(row: usize) -> u32
+    requires { ⌜ row < 175 ⌝ }
+    ensures { λ r. ⌜ r ≡ rowLeast (rowAt row) ⌝ }
+{
+    columns::leasts::LEASTS[row]
+}
+
+pub fn most_at(row: usize) -> u32
+    requires { ⌜ row < 175 ⌝ }
+    ensures { λ r. ⌜ r ≡ rowMost (rowAt row) ⌝ }
+{
+    columns::mosts::MOSTS[row]
+}
+
+pub fn read_level_at(row: usize) -> u8
+    requires { ⌜ row < 175 ⌝ }
+    ensures { λ r. ⌜ r ≡ getD readLevels row 0 ⌝ }
+{
+    columns::read_levels::READ_LEVELS[row]
+}
+
+pub fn write_level_at(row: usize) -> u8
+    requires { ⌜ row < 175 ⌝ }
+    ensures { λ r. ⌜ r ≡ getD writeLevels row 0 ⌝ }
+{
+    columns::write_levels::WRITE_LEVELS[row]
+}
+
+fn beginning_at(row: usize) -> u16
+    requires { ⌜ row < 175 ⌝ }
+    ensures { λ r. ⌜ r ≡ getD beginnings row 0 ⌝ }
+{
+    columns::beginnings::BEGINNINGS[row]
+}
+
+// The columns by type.
+fn logicals_of(i: usize) -> u8
+    requires { ⌜ i < 6 ⌝ }
+    ensures { λ r. ⌜ r ≡ logicals gateway i ⌝ }
+{
+    columns::LOGICALS[i]
+}
+
+fn height_of(i: usize) -> u8
+    requires { ⌜ i < 6 ⌝ }
+    ensures { λ r. ⌜ r ≡ height (point i) ⌝ }
+{
+    columns::HEIGHTS[i]
+}
+
+fn first_of(i: usize) -> u8
+    requires { ⌜ i < 6 ⌝ }
+    ensures { λ r. ⌜ r ≡ first i ⌝ }
+{
+    columns::FIRSTS[i]
+}
+
+fn base_of(i: usize) -> u16
+    requires { ⌜ i < 6 ⌝ }
+    ensures { λ r. ⌜ r ≡ base gateway i ⌝ }
+{
+    columns::BASES[i]
+}
+
+fn each_of(i: usize) -> u16
+    requires { ⌜ i < 6 ⌝ }
+    ensures { λ r. ⌜ r ≡ each (point i) ⌝ }
+{
+    columns::EACHES[i]
+}
+
+// The index of a point type; 6 where it is none.
+fn index_of(t: PointType) -> usize
+    ensures { λ r. ⌜ r ≡ indexOf (t .0) ⌝ }
+{
+    let n = t.0;
+    match n {
+        97 => 0,
+        98 => 1,
+        99 => 2,
+        122 => 3,
+        123 => 4,
+        124 => 5,
+        _ => 6,
+    }
+}
+
+pub fn locate(t: PointType, l: Logical, p: Parameter) -> Place
+    ensures { λ r. ⌜ r ≡ placeOf gateway (t .0) (l .0) (p .0) ⌝ }
+{
+    let i = index_of(t);
+    if 6 <= i {
+        return Place::NoType;
+    }
+    let m = l.0;
+    if logicals_of(i) <= m {
+        return Place::NoLogical;
+    }
+    let k = p.0;
+    if height_of(i) <= k {
+        return Place::NoParameter;
+    }
+    let row = first_of(i) as usize + k as usize;
+    let logical = base_of(i) as usize + m as usize * each_of(i) as usize;
+    Place::At(
+        row,
+        logical + beginning_at(row) as usize,
+        length_at(row) as usize,
+    )
 }

@@ -1,0 +1,74 @@
+-- The cases of `placeOf` for document 01's build, under the plain facts that the code's tests leave.
+-- Assumes nothing.
+use mathlib.Core.Path.{_≡_, refl, _∙_}
+use mathlib.Core.Bool.{Bool, true}
+use Prim.Native.Nat.{ℕ, _+_, _*_, _≤_, _<_}
+use native.Mathlib.Omega.{arith}
+use borrow.Author.Tests.{le-ltb, lt-ltb, ltb-true, ltb-false}
+use lib.Dec.{ltb}
+use lib.ListN.{getD, List·getD-eq-default}
+use mir.Syntax.{w64}
+use mir.Val.{Fits}
+use Rattle.base.proofs.Below.{below, at-below}
+use Rattle.points.specs.Types.{indexOf, point, height, logicals, counts, gateway}
+use Rattle.points.specs.Place.{first, base, each, within, lenAt, offset, placeOf, storeSize, areas}
+use Rattle.points.specs.Columns.{rowAt, beginnings}
+use Rattle.points.specs.declared.Place.the-variants.{At, NoType, NoLogical, NoParameter}
+use Rattle.points.specs.Sums.{store-bytes}
+use Rattle.points.proofs.Laws.{fits}
+use Rattle.points.proofs.Rows.{row-below, row-length, row-begins}
+
+-- the build has logicals of each of the six types, and of no other
+has-some : (i : ℕ) → i < 6 → ltb 0 (logicals gateway i) ≡ true
+unfolding logicals gateway
+has-some i h = at-below 6 (λ j. ltb 0 (logicals gateway j)) refl i h
+
+has-none : (i : ℕ) → 6 ≤ i → logicals gateway i ≡ 0
+unfolding logicals
+has-none i h = List·getD-eq-default (counts gateway) 0 h
+
+pub no-type : (t l k i : ℕ) → i ≡ indexOf t → 6 ≤ i → NoType ≡ placeOf gateway t l k
+unfolding placeOf
+no-type t l k i e h = simp (← e, has-none i h)
+
+module _ (t l k i n : ℕ) (e : i ≡ indexOf t) (h : i < 6) (en : n ≡ logicals gateway i) where
+  pub no-logical : n ≤ l → NoLogical ≡ placeOf gateway t l k
+  unfolding placeOf
+  no-logical hn = simp (← e, has-some i h, ← en, le-ltb l n hn)
+
+  module _ (hl : l < n) (m : ℕ) (em : m ≡ height (point i)) where
+    pub no-parameter : m ≤ k → NoParameter ≡ placeOf gateway t l k
+    unfolding placeOf
+    no-parameter hm = simp (← e, has-some i h, ← en, lt-ltb l n hl, ← em, le-ltb k m hm)
+
+    -- past the three tests
+    module _ (hk : k < m) (f : ℕ) (ef : f ≡ first i) where
+      pub in-rows : f + k < 175
+      in-rows = rw ef (row-below i k (rw em at hk))
+
+      begins : (x : ℕ) → x ≡ getD beginnings (f + k) 0 → x ≡ within i k
+      begins x ex = ex ∙ rw ef (row-begins i k (rw em at hk))
+
+      module _ (c a : ℕ) (eb : c ≡ base gateway i) (ea : a ≡ each (point i)) where
+        in-store : c + l * a + within i k ≤ 12427
+        unfolding offset
+        in-store = rw (eb, ea) (omega (arith, fits gateway i l k (rw en at hl), store-bytes))
+
+        pub area-fits : Fits w64 (l * a)
+        area-fits = record { fits = omega (arith, in-store) }
+
+        pub logical-fits : Fits w64 (c + l * a)
+        logical-fits = record { fits = omega (arith, in-store) }
+
+        pub begin-fits : (x : ℕ) → x ≡ getD beginnings (f + k) 0 → Fits w64 (c + l * a + x)
+        begin-fits x ex = let y = begins x ex in record { fits = omega (arith, in-store) }
+
+        pub is-there : (x len : ℕ) → x ≡ getD beginnings (f + k) 0 → len ≡ rowAt (f + k) .len → At (f + k) (c + l * a + x) len ≡ placeOf gateway t l k
+        unfolding placeOf offset
+        is-there x len ex el =
+            simp (← e, has-some i h, ← en, lt-ltb l n hl, ← em, lt-ltb k m hk)
+            (let y : x ≡ within i k = begins x ex in let z : len ≡ lenAt i k = el ∙ rw ef (row-length i k (rw em at hk)) in cc)
+
+pub ruleset placeOf·cases = (no-type, no-logical, no-parameter, is-there)
+
+pub ruleset placeOf·bounds = (in-rows, area-fits, logical-fits, begin-fits)

@@ -1,0 +1,80 @@
+-- A row's number: the rows of all types in one list, each type's from its first on; so each column by row is that of type and parameter.
+-- Assumes nothing.
+use mathlib.Core.Path.{_≡_, refl, sym, ap, _∙_}
+use mathlib.Core.List.{List, [], _∷_, map}
+use Prim.Native.Nat.{ℕ, zero, suc, _+_, _<_}
+use native.Mathlib.Nat.{zero-add, add-zero, add-assoc, not-suc-le-zero, le-of-suc-le-suc}
+use native.Mathlib.Omega.{arith}
+use lib.ListN.{length, getD, take, replicate, List·getD-map, length-map}
+use Rattle.base.specs.Lists.{sum, joined}
+use Rattle.base.proofs.Sums.{inside}
+use Rattle.base.proofs.Joined.{joined-at}
+use Rattle.points.specs.Row.{Row, noRow}
+use Rattle.points.specs.Types.{Point, points, noPoint, point, height, row}
+use Rattle.points.specs.Place.{lens, first, within, lenAt, rowLen}
+use Rattle.points.specs.Columns.{rowsOf, rowAt, starts, startsOf, beginnings, readsOf, writesOf, readLevels, writeLevels}
+
+-- where the k-th of a run of lengths begins: the sum of those before it
+pub starts-at : (xs : List ℕ) (a k : ℕ) → k < length xs → getD (starts a xs) k 0 ≡ a + sum (take k xs)
+starts-at [] a k h = absurd (not-suc-le-zero h)
+starts-at (x ∷ xs) a zero h = sym (add-zero a)
+starts-at (x ∷ xs) a (suc k) h = starts-at xs (a + x) k (le-of-suc-le-suc h) ∙ add-assoc a x (sum (take k xs))
+
+length-starts : (xs : List ℕ) (a : ℕ) → length (starts a xs) ≡ length xs
+length-starts [] a = refl
+length-starts (x ∷ xs) a = ap suc (length-starts xs (a + x))
+
+replicate-at : (n x k : ℕ) → k < n → getD (replicate n x) k 0 ≡ x
+replicate-at zero x k h = absurd (not-suc-le-zero h)
+replicate-at (suc n) x zero h = refl
+replicate-at (suc n) x (suc k) h = replicate-at n x k (le-of-suc-le-suc h)
+
+length-replicate : (n x : ℕ) → length (replicate n x) ≡ n
+length-replicate zero x = refl
+length-replicate (suc n) x = ap suc (length-replicate n x)
+
+-- a parameter's row is one of the 175
+pub row-below : (i k : ℕ) → k < height (point i) → first i + k < 175
+unfolding first point points
+row-below i k h = omega (arith, inside (map height points) i, List·getD-map height points i noPoint)
+
+-- and holds what its type's row holds
+pub row-at : (i k : ℕ) → k < height (point i) → rowAt (first i + k) ≡ row i k
+unfolding first point rowAt row
+row-at i k h =
+    let e : getD (map rowsOf points) i [] ≡ rowsOf (getD points i noPoint) = List·getD-map rowsOf points i noPoint in
+    joined-at noRow (map rowsOf points) i k (rw e h) ∙ ap (λ (l : List Row). getD l k noRow) e
+
+pub row-len : (i k : ℕ) → row i k .len ≡ lenAt i k
+unfolding lenAt row
+row-len i k = sym (List·getD-map rowLen (point i .rows) k noRow)
+
+pub row-length : (i k : ℕ) → k < height (point i) → rowAt (first i + k) .len ≡ lenAt i k
+row-length i k h = ap rowLen (row-at i k h) ∙ row-len i k
+
+-- a column of which each type has as many as rows: what stands at a parameter's row
+module _ (column : Point → List ℕ) (none : column noPoint ≡ []) (long : (p : Point) → length (column p) ≡ height p) where
+  lengths : (ps : List Point) → map length (map column ps) ≡ map height ps
+  lengths [] = refl
+  lengths (p ∷ ps) = λ j. long p j ∷ lengths ps j
+
+  column-at : (i k : ℕ) → k < height (point i) → getD (joined (map column points)) (first i + k) 0 ≡ getD (column (point i)) k 0
+  unfolding first point points
+  column-at i k h =
+      let e : getD (map column points) i [] ≡ column (getD points i noPoint) = rw (← none) (List·getD-map column points i noPoint) in
+      rw (← lengths points) (joined-at 0 (map column points) i k (rw (e, long (getD points i noPoint)) h)) ∙ ap (λ (l : List ℕ). getD l k 0) e
+
+pub row-begins : (i k : ℕ) → k < height (point i) → getD beginnings (first i + k) 0 ≡ within i k
+unfolding within beginnings
+row-begins i k h =
+    let n : k < length (lens (point i)) = rw (length-map (point i .rows) rowLen) h in
+    column-at startsOf refl (λ p. length-starts (lens p) 0 ∙ length-map (p .rows) rowLen) i k h
+    ∙ starts-at (lens (point i)) 0 k n ∙ zero-add (sum (take k (lens (point i))))
+
+pub row-reads : (i k : ℕ) → k < height (point i) → getD readLevels (first i + k) 0 ≡ point i .reads
+unfolding readLevels
+row-reads i k h = column-at readsOf refl (λ p. length-replicate (height p) (p .reads)) i k h ∙ replicate-at _ _ k h
+
+pub row-writes : (i k : ℕ) → k < height (point i) → getD writeLevels (first i + k) 0 ≡ point i .writes
+unfolding writeLevels
+row-writes i k h = column-at writesOf refl (λ p. length-replicate (height p) (p .writes)) i k h ∙ replicate-at _ _ k h
