@@ -3,11 +3,9 @@
 -- Assumes nothing.
 use Prim.Native.Nat.{ℕ, _+_}
 use mathlib.Core.List.{List, [], _∷_, _++_}
-use lib.ListN.{length, take, drop}
-use Rattle.base.specs.Lists.{part, sum}
-use Rattle.points.specs.Types.{Build, point}
-use Rattle.points.specs.Place.{lens}
-use Rattle.store.specs.Store.{Write, values}
+use lib.ListN.{length}
+use Rattle.points.specs.Types.{Build}
+use Rattle.store.specs.Store.{Write, values, spanOf}
 
 -- a piece of a reply: bytes as they are, or what n parameters from k up hold
 pub data Piece : Type 0 where
@@ -29,9 +27,6 @@ told b s [] = []
 told b s (p ∷ ps) = told b s ps ++ shown b s p
 
 -- how many they are
-abbrev pub spanOf : ℕ → ℕ → ℕ → ℕ
-spanOf i k n = sum (take n (drop k (lens (point i))))
-
 abbrev pub sizeOf : Piece → ℕ
 sizeOf (plain v) = length v
 sizeOf (held i l k n) = spanOf i k n

@@ -3,9 +3,10 @@
 -- Assumes nothing.
 use Prim.Native.Nat.{ℕ, zero, suc}
 use mathlib.Core.List.{List, [], _∷_, _++_}
-use Rattle.base.specs.Lists.{part, put}
-use Rattle.points.specs.Types.{Build}
-use Rattle.points.specs.Place.{offset, lenAt}
+use lib.ListN.{take, drop}
+use Rattle.base.specs.Lists.{part, put, sum}
+use Rattle.points.specs.Types.{Build, point}
+use Rattle.points.specs.Place.{lens, offset, lenAt}
 
 -- the bytes of parameter k of logical l of the i-th type
 unfoldable pub value : Build → List ℕ → ℕ → ℕ → ℕ → List ℕ
@@ -15,6 +16,10 @@ value b s i l k = part s (offset b i l k) (lenAt i k)
 unfoldable pub values : Build → List ℕ → ℕ → ℕ → ℕ → ℕ → List ℕ
 values b s i l k zero = []
 values b s i l k (suc n) = value b s i l k ++ values b s i l (suc k) n
+
+-- how many bytes they are
+abbrev pub spanOf : ℕ → ℕ → ℕ → ℕ
+spanOf i k n = sum (take n (drop k (lens (point i))))
 
 -- a value for a parameter, which goes by its type's index
 pub record Write : Type 0 where
