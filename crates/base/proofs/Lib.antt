@@ -4,3 +4,5 @@ pub mod Checks
 pub mod Sums
 pub mod Parts
 pub mod Joined
+pub mod Numbers
+pub mod Copies
