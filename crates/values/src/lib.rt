@@ -63,7 +63,7 @@ pub fn finite64(n: u64) -> bool
     n / 0x10000000000000 % 2048 != 2047
 }
 
-// The float of a pattern. `from_bits` asks for a pattern that is no NaN's: above infinity's, signs aside, there is one value, 0.0 / 0.0.
+// The float of a pattern. `from_bits` takes no NaN's pattern: those lie above infinity's, signs aside, and are all the one value 0.0 / 0.0.
 pub fn single(n: u32) -> f32
     ensures { λ r. ⌜ r ≡ ofBits binary32 n ⌝ }
 {
