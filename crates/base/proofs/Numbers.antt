@@ -4,18 +4,11 @@ use mathlib.Core.Path.{_≡_, sym, ap, _∙_}
 use mathlib.Core.List.{List, [], _∷_, _++_}
 use Prim.Native.Nat.{ℕ, suc, _+_, _*_, _^_, _≤_, _<_}
 use native.Mathlib.Nat.{add-assoc, pow-suc, mul-comm, mul-assoc}
-use native.Mathlib.Numerals.{add-one}
 use native.Mathlib.Omega.{arith}
-use lib.ListN.{length, getD, take, drop}
-use lib.Seq.{drop-cons, drop-drop, take-add}
+use lib.ListN.{length, getD}
 use Rattle.base.specs.Lists.{part}
 use Rattle.base.specs.Bytes.{le}
-use Rattle.base.proofs.Parts.{length-part}
-
--- the first byte of a part, and the rest
-pub part-cons : (s : List ℕ) (a n : ℕ) → a < length s → part s a (suc n) ≡ getD s a 0 ∷ part s (a + 1) n
-unfolding part
-part-cons s a n h = rw (add-one, drop-cons s a 0)
+use Rattle.base.proofs.Parts.{length-part, part-cons, part-add}
 
 pub le-one : (s : List ℕ) (a : ℕ) → a + 1 ≤ length s → getD s a 0 ≡ le (part s a 1)
 unfolding le part
@@ -38,7 +31,7 @@ le-four s a h =
     let h₄ : a + 3 < length s = omega arith in
     rw (part-cons s a 3, part-cons s (a + 1) 2, add-assoc, part-cons s (a + 2) 1, add-assoc, part-cons s (a + 3) 0) (omega arith)
 
--- two parts, one behind the other
+-- the number of two lists, one behind the other
 pub le-append : (x y : List ℕ) → le (x ++ y) ≡ le x + 256 ^ length x * le y
 unfolding le
 le-append [] y = omega arith
@@ -47,10 +40,6 @@ le-append (b ∷ x) y =
     ap (λ (p : ℕ). p * le y) (pow-suc 256 (length x) ∙ mul-comm (256 ^ length x) 256) ∙ mul-assoc 256 (256 ^ length x) (le y) in
     let ih = le-append x y in
     omega arith
-
-pub part-add : (s : List ℕ) (a m n : ℕ) → part s a (m + n) ≡ part s a m ++ part s (a + m) n
-unfolding part
-part-add s a m n = take-add m n (drop a s) ∙ ap (λ (l : List ℕ). take m (drop a s) ++ take n l) (drop-drop m a s)
 
 pub le-eight : (s : List ℕ) (a : ℕ) → a + 8 ≤ length s → le (part s a 4) + 4294967296 * le (part s (a + 4) 4) ≡ le (part s a 8)
 le-eight s a h =

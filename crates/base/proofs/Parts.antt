@@ -3,11 +3,12 @@
 use mathlib.Core.Path.{_≡_, refl, sym, ap, _∙_}
 use mathlib.Core.List.{List, [], _∷_, _++_, append-assoc}
 use mathlib.Core.Logic.{_⊎_, inl, inr}
-use Prim.Native.Nat.{ℕ, zero, suc, _+_, _-_, _≤_}
+use Prim.Native.Nat.{ℕ, zero, suc, _+_, _-_, _≤_, _<_}
 use native.Mathlib.Nat.{suc-add, zero-add, add-assoc}
+use native.Mathlib.Numerals.{add-one}
 use native.Mathlib.Omega.{arith}
-use lib.ListN.{length, take, drop, length-append, length-take, length-drop}
-use lib.Seq.{length-take-le, take-at, drop-at, take-append-le, take-take, take-add, drop-drop, take-nil}
+use lib.ListN.{length, getD, take, drop, length-append, length-take, length-drop}
+use lib.Seq.{length-take-le, take-at, drop-at, take-append-le, take-take, take-add, drop-cons, drop-drop, take-nil}
 use Rattle.base.specs.Lists.{part, put}
 
 -- the n elements from a, the other way round
@@ -19,6 +20,16 @@ slice-part (suc a) n (x ∷ s) = slice-part a n s ∙ ap (λ (k : ℕ). drop (su
 pub length-part : (s : List ℕ) (a n : ℕ) → a + n ≤ length s → length (part s a n) ≡ n
 unfolding part
 length-part s a n h = length-take-le n (drop a s) (simp length-drop (omega arith))
+
+-- the first element of a part, and the rest
+pub part-cons : (s : List ℕ) (a n : ℕ) → a < length s → part s a (suc n) ≡ getD s a 0 ∷ part s (a + 1) n
+unfolding part
+part-cons s a n h = rw (add-one, drop-cons s a 0)
+
+-- two parts, one behind the other
+pub part-add : (s : List ℕ) (a m n : ℕ) → part s a (m + n) ≡ part s a m ++ part s (a + m) n
+unfolding part
+part-add s a m n = take-add m n (drop a s) ∙ ap (λ (l : List ℕ). take m (drop a s) ++ take n l) (drop-drop m a s)
 
 module _ (s v : List ℕ) (a : ℕ) (fits : a + length v ≤ length s) where
   pub length-put : length (put s a v) ≡ length s
