@@ -4,3 +4,4 @@ pub mod Checks
 pub mod Sums
 pub mod Parts
 pub mod Joined
+pub mod Written

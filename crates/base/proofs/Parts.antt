@@ -16,6 +16,10 @@ slice-part zero n s = ap (λ (k : ℕ). take k s) (sym (zero-add n))
 slice-part (suc a) n [] = take-nil n ∙ ap (λ (l : List ℕ). drop (suc a) l) (sym (take-nil (suc a + n)))
 slice-part (suc a) n (x ∷ s) = slice-part a n s ∙ ap (λ (k : ℕ). drop (suc a) (take k (x ∷ s))) (sym (suc-add a n))
 
+pub length-part : (s : List ℕ) (a n : ℕ) → a + n ≤ length s → length (part s a n) ≡ n
+unfolding part
+length-part s a n h = length-take-le n (drop a s) (simp length-drop (omega arith))
+
 module _ (s v : List ℕ) (a : ℕ) (fits : a + length v ≤ length s) where
   pub length-put : length (put s a v) ≡ length s
   unfolding put
@@ -78,7 +82,7 @@ unfolding put part
 put-next f s a n hf hs =
     let v : List ℕ = take n (drop a f) in
     let e : length (take a f) ≡ a = length-take-le a f (omega arith) in
-    let len : length v ≡ n = length-take-le n (drop a f) (simp length-drop (omega arith)) in
+    let len : length v ≡ n = length-part f a n hf in
     let front : take a (take a f ++ drop a s) ≡ take a f = take-at (take a f) (drop a s) a e in
     let back : drop (a + length v) (take a f ++ drop a s) ≡ drop (a + n) s =
     ap (λ (j : ℕ). drop (a + j) (take a f ++ drop a s)) len
