@@ -6,8 +6,8 @@ use Prim.Native.Nat.{ℕ, _+_, _/_, _%_, _≤_}
 use native.Mathlib.Omega.{arith}
 use lib.ListN.{length, take, length-append}
 use Rattle.base.specs.Lists.{part, put, over}
-use Rattle.base.proofs.Parts.{length-part}
-use Rattle.base.proofs.Written.{put-first, over-there, over-next, take-over}
+use Rattle.base.proofs.Parts.{length-part, part-put}
+use Rattle.base.proofs.Written.{put-first, over-there, over-next, over-put, take-over}
 use Rattle.crc.specs.Crc.{crcOf}
 use Rattle.frame.specs.Frame.{heading, crcBytes, sealed, frameOf}
 use Rattle.frame.specs.declared.Address.{Address}
@@ -34,3 +34,14 @@ closed s s₁ s₂ to us op n w fits e p q =
     q ∙ ap (λ (l : List ℕ). put l (w + 6) (crcBytes (take (w + 6) l))) front
     ∙ sealed-over s (h ++ d) (w + 6) both
     ∙ ap (λ (k : ℕ). over s (sealed (heading to us op k ++ d))) (sym len)
+
+pub length-frame : (to us : Address) (op : ℕ) (d : List ℕ) → length (frameOf to us op d) ≡ length d + 8
+unfolding frameOf sealed
+length-frame to us op d = simp length-append (omega arith)
+
+-- what a caller has who writes the data first: s₁ is the space with the data, s₂ the space with the frame
+pub answered : (s s₁ s₂ d : List ℕ) (to us : Address) (op n : ℕ) → length d ≡ n → 6 + n ≤ length s
+    → s₁ ≡ put s 6 d → s₂ ≡ over s₁ (frameOf to us op (part s₁ 6 n)) → s₂ ≡ over s (frameOf to us op d)
+answered s s₁ s₂ d to us op n e fits p q =
+    let there : part (put s 6 d) 6 n ≡ d = rw (← e) (part-put s d 6 (omega arith)) in
+    q ∙ rw (p, there) (over-put s d (frameOf to us op d) 6 (omega arith) (rw length-frame (omega arith)))
