@@ -7,3 +7,4 @@ pub mod Parts
 pub mod Joined
 pub mod Numbers
 pub mod Copies
+pub mod Written

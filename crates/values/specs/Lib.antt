@@ -2,3 +2,4 @@ pub mod Kinds
 pub mod Judged
 pub mod Pairs
 pub mod Number
+pub mod Weighed

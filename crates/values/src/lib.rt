@@ -21,6 +21,12 @@ pub enum Reading {
     Refused(u8),
 }
 
+// What judging a value answers: fine, or the number of its fault with an offset into the value.
+pub enum Judgement {
+    Fine,
+    Bad(u8, u8),
+}
+
 // Text bytes are 0x20 to 0x7E in every type.
 pub fn printable(b: u8) -> bool
     ensures { λ r. ⌜ r ≡ printable b ⌝ }
