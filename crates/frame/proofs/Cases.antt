@@ -10,7 +10,8 @@ use borrow.Author.Tests.{le-leb, lt-leb, eq-eqb, ne-eqb}
 use Rattle.crc.specs.Crc.{crcOf}
 use Rattle.frame.specs.Address.{sameAddress, direct, broadcast, stationary, destination, source, forUs}
 use Rattle.frame.specs.Frame.{dataLength, crcRight}
-use Rattle.frame.specs.Framing.{framing, addressing}
+use Rattle.base.specs.Check.{_>>=_, test, outcomeOf}
+use Rattle.frame.specs.Framing.{whole, directed, framing, addressing}
 use Rattle.frame.specs.declared.Address.{Address}
 
 module _ (x y : Address) where
@@ -47,47 +48,47 @@ module _ (x : Address) where
 
 module _ (f : List ℕ) where
   pub too-short : length f < 8 → 4 ≡ framing f
-  unfolding framing
+  unfolding framing whole outcomeOf _>>=_ test
   too-short h = simp (lt-leb _ _ h)
 
   pub too-long : 8 ≤ length f → 263 < length f → 4 ≡ framing f
-  unfolding framing
+  unfolding framing whole outcomeOf _>>=_ test
   too-long h k = simp (le-leb _ _ h, lt-leb _ _ k)
 
   -- n is the data's length as the code read it
   module _ (n : ℕ) (e : n ≡ dataLength f) (h : 8 ≤ length f) (k : length f ≤ 263) where
     pub uneven : (length f ≡ n + 8 → ⊥) → 5 ≡ framing f
-    unfolding framing
+    unfolding framing whole outcomeOf _>>=_ test
     uneven d = simp (le-leb _ _ h, le-leb _ _ k, ← e, ne-eqb _ _ d)
 
     -- a is the CRC that the code found, b the one that the frame says
     module _ (a b : ℕ) (d : length f ≡ n + 8) (p : a ≡ crcOf (take (n + 6) f)) (q : b ≡ getD f (n + 6) 0 + 256 * getD f (n + 7) 0) where
-      pub whole : a ≡ b → 0 ≡ framing f
-      unfolding framing crcRight
-      whole r = simp (le-leb _ _ h, le-leb _ _ k, ← e, eq-eqb _ _ d, ← p, ← q, eq-eqb _ _ r)
+      pub undamaged : a ≡ b → 0 ≡ framing f
+      unfolding framing whole outcomeOf _>>=_ test crcRight
+      undamaged r = simp (le-leb _ _ h, le-leb _ _ k, ← e, eq-eqb _ _ d, ← p, ← q, eq-eqb _ _ r)
 
       pub damaged : (a ≡ b → ⊥) → 6 ≡ framing f
-      unfolding framing crcRight
+      unfolding framing whole outcomeOf _>>=_ test crcRight
       damaged r = simp (le-leb _ _ h, le-leb _ _ k, ← e, eq-eqb _ _ d, ← p, ← q, ne-eqb _ _ r)
 
 -- a, b and d are what the code found of destination and source
 module _ (us : Address) (f : List ℕ) (a : Bool) (e : a ≡ forUs us (destination f)) where
   pub not-for-us : a ≡ false → 7 ≡ addressing us f
-  unfolding addressing
+  unfolding addressing directed outcomeOf _>>=_ test
   not-for-us t = simp (← e, t)
 
   module _ (t : a ≡ true) (b : Bool) (p : b ≡ stationary (source f)) where
     pub from-none : b ≡ false → 8 ≡ addressing us f
-    unfolding addressing
+    unfolding addressing directed outcomeOf _>>=_ test
     from-none h = simp (← e, t, ← p, h)
 
     module _ (h : b ≡ true) (d : Bool) (q : d ≡ sameAddress (source f) us) where
       pub from-us : d ≡ true → 8 ≡ addressing us f
-      unfolding addressing
+      unfolding addressing directed outcomeOf _>>=_ test
       from-us r = simp (← e, t, ← p, h, ← q, r)
 
       pub from-another : d ≡ false → 0 ≡ addressing us f
-      unfolding addressing
+      unfolding addressing directed outcomeOf _>>=_ test
       from-another r = simp (← e, t, ← p, h, ← q, r)
 
 -- for `search`, at each return
@@ -97,6 +98,6 @@ pub ruleset forUs·cases = (to-us, to-all, directly)
 
 pub ruleset stationary·cases = (no-unit, not-direct)
 
-pub ruleset framing·cases = (too-short, too-long, uneven, whole, damaged)
+pub ruleset framing·cases = (too-short, too-long, uneven, undamaged, damaged)
 
 pub ruleset addressing·cases = (not-for-us, from-none, from-us, from-another)

@@ -40,6 +40,12 @@ sourceAt (Block i l k) e bs = block i l (k + e)
 sourceAt NamedS e bs = named
 sourceAt Located e bs = located (drop (3 * e) bs)
 
+-- how many bytes of the data name an entry
+abbrev pub spokenOf : Source → ℕ
+spokenOf (Block i l k) = 0
+spokenOf NamedS = 3
+spokenOf Located = 0
+
 unfoldable pub entryOf : Named → Entry
 entryOf p =
     record {

@@ -5,7 +5,7 @@ ghost use lib.ListN.{drop};
 ghost use Rattle.points.specs.Types.{gateway};
 ghost use Rattle.points.specs.Columns.{rowAt};
 ghost use Rattle.rules.specs.Entries.{next, found, reaches, mayWrite};
-ghost use Rattle.lists.specs.Walks.{callerOf, levelBy, levelAt, sourceAt, nextOf, Findable};
+ghost use Rattle.lists.specs.Walks.{callerOf, levelBy, levelAt, spokenOf, sourceAt, nextOf, Findable};
 use points::Logical;
 use points::Parameter;
 use points::Place;
@@ -45,6 +45,12 @@ pub enum Next {
     Fault(u8, u8),
 }
 
+// What a walk answers: how many bytes it passes, or the fault.
+pub enum Checked {
+    Pass(usize),
+    Fault(u8, u8),
+}
+
 impl Caller {
     fn reaches(self, needed: u8) -> bool
         ensures { λ r. ⌜ r ≡ reaches (callerOf self) needed ⌝ }
@@ -55,7 +61,7 @@ impl Caller {
         needed <= self.level
     }
 
-    fn may_write(self, row: usize, logical: u8) -> bool
+    pub fn may_write(self, row: usize, logical: u8) -> bool
         requires { ⌜ row < 175 ⌝ }
         ensures { λ r. ⌜ r ≡ mayWrite (callerOf self) (rowAt row .access) logical ⌝ }
     {
@@ -103,6 +109,17 @@ fn find(who: Caller, write: bool, t: PointType, l: Logical, k: Parameter, at: Pl
             }
             Next::Fault(25, at.point)
         }
+    }
+}
+
+// How many bytes of the data name an entry.
+pub fn spoken(src: Source) -> usize
+    ensures { λ r. ⌜ r ≡ spokenOf src ⌝ }
+{
+    match src {
+        Source::Block(_, _, _) => 0,
+        Source::Named => 3,
+        Source::Located => 0,
     }
 }
 
