@@ -20,7 +20,7 @@ use Rattle.rules.specs.Entries.{Named, spoken, after, next}
 use Rattle.rules.specs.Deeds.{Piece, plain, held, sizes}
 use Rattle.rules.specs.Lists.{readLevel, ends, fitting, reading}
 use Rattle.lists.specs.Walks.{levelBy, spokenOf, sourceAt, entryOf, nextOf, Findable}
-use Rattle.lists.proofs.Sources.{level-read, after-one, spoken-same, is-fault, is-pass, spoken-there}
+use Rattle.lists.proofs.Sources.{level-read, after-one, spoken-same, is-fault, is-pass, spoken-there, Stands, stands}
 use Rattle.lists.specs.declared.Entry.{Entry}
 use Rattle.lists.specs.declared.Source.{Source}
 use Rattle.lists.specs.declared.Source.the-variants.{Block, Named as NamedS, Located}
@@ -54,52 +54,72 @@ module _ (who : rules.Caller) (src : Source) (d bs : List ℕ) where
   unfolding listed
   begins a n ea en = record { so-far = opening src d; sized = sym en; rest = rw ea (ap (λ (k : ℕ). reading gateway who (sourceAt src 0 bs) k (drop (fromOf src) d) (fromOf src) (opening src d)) (omega arith)) }
 
-  module _ (e at size : ℕ) (l : Left who src d bs e at size) where
+  module _ (e at : ℕ) where
     -- the check of the entry that the loop stands at
-    here : Check Named
+    unfoldable pub here : Check Named
     here = next gateway readLevel who (sourceAt src e bs) (drop at d) at
 
-    more : e < countOf src d
-        → reading gateway who (sourceAt src e bs) (suc (countOf src d - (e + 1))) (drop at d) at (l .so-far) ≡ listed who src d bs
-    more h = ap (λ (k : ℕ). reading gateway who (sourceAt src e bs) k (drop at d) at (l .so-far)) (omega arith) ∙ l .rest
-
-    last : countOf src d ≤ e → reading gateway who (sourceAt src e bs) 0 (drop at d) at (l .so-far) ≡ listed who src d bs
-    last h = ap (λ (k : ℕ). reading gateway who (sourceAt src e bs) k (drop at d) at (l .so-far)) (omega arith) ∙ l .rest
-
-    -- a fault of this entry is the list's
     module _ (x : Next) (ex : x ≡ nextOf (next gateway (levelBy false) who (sourceAt src e bs) (drop at d) at)) where
-      found : x ≡ nextOf here
+      pub found : x ≡ nextOf here
       unfolding here
       found = rw level-read at ex
 
-      pub faulty : (n p : ℕ) → e < countOf src d → x ≡ FaultN n p → Fault n p ≡ checkedOf (listed who src d bs)
-      unfolding reading checkedOf here
-      faulty n p h f = rw (← more h) (ap checkedOf (sym (on-fault _ (is-fault here found f))))
+      -- the entry was found: n is what the code found to be spoken
+      module _ (r : Entry) (f : x ≡ Found r) (n : ℕ) (en : n ≡ spokenOf src) where
+        pub entry-is : Named
+        entry-is = is-pass here found f .0
 
-      module _ (r : Entry) (f : x ≡ Found r) where
         pub short-entry : r .len ≤ 40
         unfolding entryOf
         short-entry = let q = is-pass here found f in rw (q .1 .1) (len-small (q .0 .type) (q .0 .parameter))
 
-        -- n is what the code found to be spoken
-        pub within : (n : ℕ) → n ≡ spokenOf src → at ≤ length d → at + n ≤ length d
+        pub within : at ≤ length d → at + n ≤ length d
         unfolding here
-        within n en i = omega (arith, spoken-there readLevel who src e d at bs (is-pass here found f .1 .0))
+        within i = omega (arith, spoken-there readLevel who src e d at bs (is-pass here found f .1 .0))
 
-        pub turn : (n : ℕ) → n ≡ spokenOf src → e < countOf src d → at ≤ length d → Left who src d bs (e + 1) (at + n) (size + (n + r .len))
-        unfolding reading entryOf here
-        turn n en h i =
-            let q = is-pass here found f in
+        pub said : r ≡ entryOf entry-is
+        unfolding entry-is
+        said = is-pass here found f .1 .1
+
+        pub it-stands : Findable src e d at bs → Stands entry-is
+        unfolding here entry-is
+        it-stands w = stands readLevel who src e d at bs w (is-pass here found f .1 .0)
+
+        -- the check goes on behind it
+        pub onward : (ps : List Piece) → e < countOf src d
+            → reading gateway who (sourceAt src e bs) (countOf src d - e) (drop at d) at ps ≡ listed who src d bs
+            → reading gateway who (sourceAt src (e + 1) bs) (countOf src d - (e + 1)) (drop (at + n) d) (at + n) (told-of n (drop at d) entry-is ps) ≡ listed who src d bs
+        unfolding reading here entry-is
+        onward ps h l =
             let s : spoken (sourceAt src e bs) ≡ n = spoken-same src e bs ∙ sym en in
-            let room : n ≤ length (drop at d) = rw (length-drop at d) (omega (arith, within n en i)) in
-            let long : r .len ≡ lenAt (q .0 .type) (q .0 .parameter) = ap (λ (z : Entry). z .len) (q .1 .1) in
-            record {
-              so-far = told-of n (drop at d) (q .0) (l .so-far);
-              sized = omega (arith, l .sized, length-take-le n (drop at d) room, span-one (q .0 .type) (q .0 .parameter), long);
-              rest =
-                  rw (← after-one src e bs, ← drop-drop n at d)
-                  (sym (sym (more h) ∙ on-pass _ (q .1 .0) ∙ rw s refl));
-            }
+            let k : countOf src d - e ≡ suc (countOf src d - (e + 1)) = omega arith in
+            rw (← after-one src e bs, ← drop-drop n at d)
+            (sym (sym l ∙ ap (λ (m : ℕ). reading gateway who (sourceAt src e bs) m (drop at d) at ps) k ∙ on-pass _ (is-pass here found f .1 .0) ∙ rw s refl))
+
+  module _ (e at size : ℕ) (l : Left who src d bs e at size) where
+    last : countOf src d ≤ e → reading gateway who (sourceAt src e bs) 0 (drop at d) at (l .so-far) ≡ listed who src d bs
+    last h = ap (λ (k : ℕ). reading gateway who (sourceAt src e bs) k (drop at d) at (l .so-far)) (omega arith) ∙ l .rest
+
+    module _ (x : Next) (ex : x ≡ nextOf (next gateway (levelBy false) who (sourceAt src e bs) (drop at d) at)) where
+      -- a fault of this entry is the list's
+      pub faulty : (n p : ℕ) → e < countOf src d → x ≡ FaultN n p → Fault n p ≡ checkedOf (listed who src d bs)
+      unfolding reading checkedOf here
+      faulty n p h f =
+          let k : countOf src d - e ≡ suc (countOf src d - (e + 1)) = omega arith in
+          rw (← l .rest, k) (ap checkedOf (sym (on-fault _ (is-fault (here e at) (found e at x ex) f))))
+
+      pub turn : (r : Entry) → x ≡ Found r → (n : ℕ) → n ≡ spokenOf src → e < countOf src d → at ≤ length d
+          → Left who src d bs (e + 1) (at + n) (size + (n + r .len))
+      unfolding entryOf
+      turn r f n en h i =
+          let q = entry-is e at x ex r f n en in
+          let room : n ≤ length (drop at d) = rw (length-drop at d) (omega (arith, within e at x ex r f n en i)) in
+          let long : r .len ≡ lenAt (q .type) (q .parameter) = ap (λ (z : Entry). z .len) (said e at x ex r f n en) in
+          record {
+            so-far = told-of n (drop at d) q (l .so-far);
+            sized = omega (arith, l .sized, length-take-le n (drop at d) room, span-one (q .type) (q .parameter), long);
+            rest = onward e at x ex r f n en (l .so-far) h (l .rest);
+          }
 
     over : length d ≤ at → length (drop at d) ≡ 0
     over i = simp length-drop (omega arith)

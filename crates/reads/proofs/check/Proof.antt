@@ -54,21 +54,21 @@ add-size : tie.Need-add-size Inv-loop μ-loop
 add-size c =
     let l = c .before .before .before .before .before .before in
     let found = c .before .before .before .before .next-entry .ensures in
-    let short = short-entry _ _ _ _ _ _ _ (l .loop .inv .6) _ found _ (c .before .before .next2 .given .1) in
+    let short = short-entry _ _ (l .before .before .before .before .before .before .args .d .now) _ _ (l .loop .at) _ found _ (c .before .before .next2 .given .1) _ (l .loop .inv .1) in
     omega (arith, short, spoken-small (l .before .before .before .before .before .before .args .src))
 
 add-size-2 : tie.Need-add-size-2 Inv-loop μ-loop
 add-size-2 c =
     let l = c .before .before .before .before .before .before in
     let found = c .before .before .before .before .next-entry .ensures in
-    let short = short-entry _ _ _ _ _ _ _ (l .loop .inv .6) _ found _ (c .before .before .next2 .given .1) in
+    let short = short-entry _ _ (l .before .before .before .before .before .before .args .d .now) _ _ (l .loop .at) _ found _ (c .before .before .next2 .given .1) _ (l .loop .inv .1) in
     omega (arith, short, spoken-small (l .before .before .before .before .before .before .args .src))
 
 add-at : tie.Need-add-at Inv-loop μ-loop
 add-at c =
     let l = c .before .before .before .before .before .before in
     let found = c .before .before .before .before .next-entry .ensures in
-    let room = within _ _ _ _ _ _ _ (l .loop .inv .6) _ found _ (c .before .before .next2 .given .1) _ (l .loop .inv .1) (l .loop .inv .4) in
+    let room = within _ _ (l .before .before .before .before .before .before .args .d .now) _ _ (l .loop .at) _ found _ (c .before .before .next2 .given .1) _ (l .loop .inv .1) (l .loop .inv .4) in
     omega (arith, room)
 
 add-e : tie.Need-add-e Inv-loop μ-loop
@@ -82,9 +82,8 @@ loop-again c =
     let l = c .before .before .before .before .before .before in
     let found = c .before .before .before .before .next-entry .ensures in
     let given = c .before .before .next2 .given .1 in
-    let short = short-entry _ _ _ _ _ _ _ (l .loop .inv .6) _ found _ given in
-    let room = within _ _ _ _ _ _ _ (l .loop .inv .6) _ found _ given _ (l .loop .inv .1) (l .loop .inv .4) in
-    (
+    let short = short-entry _ _ (l .before .before .before .before .before .before .args .d .now) _ _ (l .loop .at) _ found _ given _ (l .loop .inv .1) in
+    let room = within _ _ (l .before .before .before .before .before .before .args .d .now) _ _ (l .loop .at) _ found _ given _ (l .loop .inv .1) (l .loop .inv .4) in (
       l .loop .inv .0,
       l .loop .inv .1,
       l .loop .inv .2,
