@@ -1,3 +1,4 @@
 pub mod Signs
 pub mod Nans
 pub mod Ranges
+pub mod Named

@@ -1,4 +1,8 @@
 // What a value may be, and what it says as a number.
+mod tlps;
+
+pub use tlps::number_tlp_ok;
+pub use tlps::tlp_ok;
 ghost use mathlib.Core.Path.{_≡_};
 ghost use lib.Dec.{leb};
 ghost use lib.Ieee.{binary32, binary64, ofBits};
