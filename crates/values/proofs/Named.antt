@@ -1,13 +1,14 @@
 -- The cases of the TLPs that a value may be, by what the code finds of the place.
 -- Assumes nothing.
 use mathlib.Core.Path.{_≡_, refl, sym, ap, _∙_}
-use mathlib.Core.Bool.{Bool, true, false}
+use mathlib.Core.Bool.{Bool, true, false, cond}
 use mathlib.Core.List.{List, [], _∷_}
 use Prim.Native.Nat.{ℕ, _+_, _≤_, _<_}
 use native.Mathlib.Omega.{arith}
 use lib.Dec.{eqb, leb}
+use lib.ListN.{length, getD}
 use borrow.Author.Tests.{eq-eqb, ne-eqb, le-leb, lt-leb}
-use Rattle.base.specs.Lists.{both}
+use Rattle.base.specs.Lists.{both, part}
 use Rattle.points.specs.Row.{Row, Kind, text, unsigned, signed, single, double, tlp}
 use Rattle.points.specs.Types.{gateway, indexOf, row}
 use Rattle.points.specs.Place.{placeOf, first}
@@ -16,6 +17,7 @@ use Rattle.points.specs.declared.Place.{Place}
 use Rattle.points.specs.declared.Place.the-variants.{At, NoType, NoLogical, NoParameter}
 use Rattle.points.proofs.Rows.{row-at}
 use Rattle.points.proofs.Placed.{placed}
+use Rattle.values.proofs.Widths.{part-three}
 use Rattle.values.specs.Kinds.{nothing, isThere, isNumber, validTlp, numberTlp}
 
 -- the kinds that are numbers have the codes 1 to 4
@@ -91,6 +93,18 @@ module _ (t l k : ℕ) where
 
           pub number-low : c < 1 → leb 1 c ≡ numberTlp gateway (t ∷ l ∷ k ∷ [])
           number-low i = rw (← number-coded, lt-leb 1 c i)
+
+-- three bytes of a list, by the range's code q; b is what the code found of them
+module _ (d : List ℕ) (a : ℕ) (h : a + 3 ≤ length d) (q : ℕ) (b : Bool) where
+  pub tlp-at-number : q ≡ 4 → b ≡ numberTlp gateway (getD d a 0 ∷ getD d (a + 1) 0 ∷ getD d (a + 2) 0 ∷ [])
+      → b ≡ cond (eqb q 4) (numberTlp gateway (part d a 3)) (validTlp gateway (part d a 3))
+  tlp-at-number e f = rw (eq-eqb q 4 e, part-three d a h) f
+
+  pub tlp-at-any : (q ≡ 4 → ⊥) → b ≡ validTlp gateway (getD d a 0 ∷ getD d (a + 1) 0 ∷ getD d (a + 2) 0 ∷ [])
+      → b ≡ cond (eqb q 4) (numberTlp gateway (part d a 3)) (validTlp gateway (part d a 3))
+  tlp-at-any e f = rw (ne-eqb q 4 e, part-three d a h) f
+
+pub ruleset tlp-at·cases = (tlp-at-number, tlp-at-any)
 
 pub ruleset nothing·cases = (none-by-type, none-by-logical, none-by-parameter)
 

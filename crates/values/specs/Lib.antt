@@ -3,3 +3,4 @@ pub mod Judged
 pub mod Pairs
 pub mod Number
 pub mod Weighed
+pub mod Weighable

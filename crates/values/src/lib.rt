@@ -1,5 +1,7 @@
 // What a value may be, and what it says as a number.
+mod bits;
 mod tlps;
+mod weigh;
 
 pub use tlps::number_tlp_ok;
 pub use tlps::tlp_ok;
