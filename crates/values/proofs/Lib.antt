@@ -5,3 +5,4 @@ pub mod Named
 pub mod Table
 pub mod Widths
 pub mod Judging
+pub mod Mates

@@ -43,7 +43,7 @@ ranged double q = plain q
 ranged tlp q = either (plain q) (eqb (rangeCode q) 4)
 
 -- parameter k of type 124, which has n bytes, and its mate
-abbrev mates : ℕ → ℕ → Bool
+abbrev pub mates : ℕ → ℕ → Bool
 mates k n =
     either (eqb (mateOf k) 0) (both (eqb n 2) (both (ltb (mateOf k) (height (point segments))) (eqb (lenAt segments (mateOf k)) 2)))
 
@@ -62,7 +62,7 @@ module _ (r : ℕ) (h : r < 175) where
   pub row-ranged : ranged (rowAt r .kind) (rowAt r .range) ≡ true
   row-ranged = both-left _ _ (both-right (long (rowAt r .kind) (rowAt r .len)) _ (all-regular r h))
 
-  row-mates : 161 ≤ r → mates (r - 161) (rowAt r .len) ≡ true
+  pub row-mates : 161 ≤ r → mates (r - 161) (rowAt r .len) ≡ true
   row-mates k =
       rw (le-leb 161 r k) at
       (both-right (ranged (rowAt r .kind) (rowAt r .range)) _ (both-right (long (rowAt r .kind) (rowAt r .len)) _ (all-regular r h)))

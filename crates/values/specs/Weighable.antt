@@ -8,8 +8,8 @@ use lib.Dec.{leb, eqb}
 use lib.ListN.{length, getD}
 use Rattle.base.specs.Check.{Check, fault, pass}
 use Rattle.base.specs.Lists.{either}
-use Rattle.points.specs.Types.{gateway, logicals, segments}
-use Rattle.points.specs.Place.{first, storeSize}
+use Rattle.points.specs.Types.{gateway, logicals, segments, point, height}
+use Rattle.points.specs.Place.{first, storeSize, lenAt}
 use Rattle.points.specs.Columns.{rowAt, rowKind}
 use Rattle.values.specs.Pairs.{under}
 
@@ -26,6 +26,13 @@ pub record Weighable (s : List ℕ) (r l : ℕ) (d : List ℕ) (a : ℕ) : Type 
   pub room : a + rowAt r .len ≤ length d
   pub whole : length s ≡ storeSize gateway
   pub segment : (first segments ≤ r → l < logicals gateway segments)
+
+-- parameter k of a pair on logical l of type 124, in a store s
+pub record Mating (s : List ℕ) (l k : ℕ) : Type 0 where
+  pub whole : length s ≡ storeSize gateway
+  pub logical : l < logicals gateway segments
+  pub parameter : k < height (point segments)
+  pub long : lenAt segments k ≡ 2
 
 unfoldable pub passes : Check Unit → Bool
 passes (fault n p) = false

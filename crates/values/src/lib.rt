@@ -1,5 +1,6 @@
 // What a value may be, and what it says as a number.
 mod bits;
+mod pairs;
 mod tlps;
 mod weigh;
 
