@@ -6,3 +6,4 @@ pub mod Table
 pub mod Widths
 pub mod Judging
 pub mod Mates
+pub mod Verdicts

@@ -2,10 +2,11 @@
 mod bits;
 mod pairs;
 mod tlps;
-mod weigh;
+mod weighing;
 
 pub use tlps::number_tlp_ok;
 pub use tlps::tlp_ok;
+pub use weighing::weigh;
 ghost use mathlib.Core.Path.{_≡_};
 ghost use lib.Dec.{leb};
 ghost use lib.Ieee.{binary32, binary64, ofBits};

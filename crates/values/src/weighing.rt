@@ -5,10 +5,12 @@ ghost use Rattle.points.specs.Types.{gateway};
 ghost use Rattle.points.specs.Columns.{rowAt, rowKind};
 ghost use Rattle.values.specs.Judged.{inRange, judged};
 ghost use Rattle.values.specs.Weighed.{weighed, judgementOf};
-ghost use Rattle.values.specs.Weighable.{Standing, passes};
+ghost use Rattle.values.specs.Weighable.{Standing, Weighable, passes};
+use crate::Judgement;
 use crate::bits::unsigned_at;
 use crate::finite32;
 use crate::finite64;
+use crate::pairs::pair_ok;
 use crate::rate_ok;
 use crate::size_ok;
 use crate::status_ok;
@@ -41,4 +43,18 @@ fn judge(row: usize, l: u8, data: &[u8], at: usize) -> bool
         4 => finite64(base::quad_at(data, at)),
         _ => tlp_at(points::range_at(row), data, at),
     }
+}
+
+// Every fault of a value has the same number and no offset: 27 at 0.
+pub fn weigh(store: &[u8], row: usize, l: u8, data: &[u8], at: usize) -> Judgement
+    requires { ⌜ Weighable (now store) row l (now «data») at ⌝ }
+    ensures { λ r. ⌜ r ≡ judgementOf (weighed gateway (now (store .entry)) row l (part (now («data» .entry)) at (rowAt row .len))) ⌝ }
+{
+    if judge(row, l, data, at) {
+        if pair_ok(store, row, l, data, at) {
+            return Judgement::Fine;
+        }
+        return Judgement::Bad(27, 0);
+    }
+    Judgement::Bad(27, 0)
 }

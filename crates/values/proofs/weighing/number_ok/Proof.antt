@@ -1,9 +1,9 @@
--- `values::weigh::number_ok` meets its contract.
+-- `values::weighing::number_ok` meets its contract.
 -- Assumes nothing.
 use borrow.Author.Needs.{needs}
 use Rattle.values.proofs.Judging.{number·cases}
-use Rattle.values.proofs.weigh.number_ok.Statement.{statement}
-use Rattle.values.proofs.weigh.number_ok.Tie as tie
+use Rattle.values.proofs.weighing.number_ok.Statement.{statement}
+use Rattle.values.proofs.weighing.number_ok.Tie as tie
 
 length-at-requires : tie.Need-length-at-requires
 length-at-requires c κs = search needs

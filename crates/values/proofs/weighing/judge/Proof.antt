@@ -1,9 +1,9 @@
--- `values::weigh::judge` meets its contract, by the cases of the kinds.
+-- `values::weighing::judge` meets its contract, by the cases of the kinds.
 -- Assumes nothing.
 use borrow.Author.Needs.{needs}
 use Rattle.values.proofs.Judging.{judge·cases}
-use Rattle.values.proofs.weigh.judge.Statement.{statement}
-use Rattle.values.proofs.weigh.judge.Tie as tie
+use Rattle.values.proofs.weighing.judge.Statement.{statement}
+use Rattle.values.proofs.weighing.judge.Tie as tie
 
 kind-at-requires : tie.Need-kind-at-requires
 kind-at-requires c κs = search needs
