@@ -19,7 +19,7 @@ use Rattle.points.specs.Columns.{rowAt, rowKind, rowRange, rowLeast, rowMost, k
 use Rattle.values.specs.Kinds.{finite32, finite64, validTlp, numberTlp, ofKind, nothing, names, isNumber}
 use Rattle.values.specs.Judged.{statusOk, rateOk, sizeOk, inRange, judged}
 use Rattle.values.specs.Weighable.{Standing, passes, whole}
-use Rattle.values.proofs.Table.{plain, ranged, row-ranged, kind-is, unsigned-long, signed-long, single-long, double-long, tlp-long}
+use Rattle.values.proofs.Table.{rooms, plain, ranged, row-ranged, kind-is, unsigned-long, signed-long, single-long, double-long, tlp-long}
 
 -- ---- an unsigned number, by its range
 
@@ -54,12 +54,6 @@ module _ (l : ℕ) (v : List ℕ) where
   as-stretch number n t a b h = absurd (false≢true t)
 
 module _ (r : ℕ) (d : List ℕ) (a : ℕ) (w : Standing r d a) (k : rowKind (rowAt r) ≡ 1) (n : ℕ) (e : n ≡ rowAt r .len) where
-  pub number-whole : whole n ≡ true
-  number-whole = rw e (unsigned-long r (w .row) _ refl k)
-
-  pub number-room : a + n ≤ length d
-  number-room = rw e (w .room)
-
   -- x is the number that the code read, q the range's code, b what it found
   module _ (l x : ℕ) (f : x ≡ le (part d a n)) (q : ℕ) (g : q ≡ rowRange (rowAt r)) (b : Bool) where
     pub number-rate : q ≡ 2 → b ≡ rateOk x → b ≡ inRange gateway (rowAt r .range) l (part d a (rowAt r .len))
@@ -77,7 +71,7 @@ module _ (r : ℕ) (d : List ℕ) (a : ℕ) (w : Standing r d a) (k : rowKind (r
         rw (← e)
         (t ∙ rw (ey, m, f) (as-stretch l (part d a n) (rowAt r .range) n s (λ o. i (g ∙ o)) (λ o. j (g ∙ o)) (rw f at h)))
 
-pub ruleset number·cases = (number-whole, number-room, number-rate, number-size, number-within)
+pub ruleset number·cases = (rooms, number-rate, number-size, number-within)
 
 -- ---- a value by its kind
 
@@ -137,15 +131,6 @@ the-last tlp o a b c d = refl
 
 -- c is the kind's code
 module _ (r : ℕ) (d : List ℕ) (a : ℕ) (w : Standing r d a) (c : ℕ) (e : c ≡ rowKind (rowAt r)) where
-  pub signed-room : c ≡ 2 → a < length d
-  signed-room f = omega (arith, signed-long r (w .row) c e f, w .room)
-
-  pub single-room : c ≡ 3 → a + 4 ≤ length d
-  single-room f = omega (arith, single-long r (w .row) c e f, w .room)
-
-  pub double-room : c ≡ 4 → a + 8 ≤ length d
-  double-room f = omega (arith, double-long r (w .row) c e f, w .room)
-
   -- b is what the code found
   module _ (l : ℕ) (b : Bool) where
     pub judge-number : c ≡ 1 → b ≡ inRange gateway (rowAt r .range) l (part d a (rowAt r .len))
@@ -204,4 +189,4 @@ module _ (r : ℕ) (d : List ℕ) (a : ℕ) (w : Standing r d a) (c : ℕ) (e : 
         (t ∙ rw g (as-tlp l (part d a 3) (rowAt r .range) (rw k at (row-ranged r (w .row)))))
 
 pub ruleset judge·cases =
-    (signed-room, single-room, double-room, tlp-room, judge-number, judge-status, judge-single, judge-double, judge-tlp)
+    (rooms, tlp-room, judge-number, judge-status, judge-single, judge-double, judge-tlp)

@@ -7,3 +7,4 @@ pub mod Widths
 pub mod Judging
 pub mod Mates
 pub mod Verdicts
+pub mod Read

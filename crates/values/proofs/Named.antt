@@ -16,7 +16,7 @@ use Rattle.points.specs.Columns.{rowAt, rowKind, kindCode}
 use Rattle.points.specs.declared.Place.{Place}
 use Rattle.points.specs.declared.Place.the-variants.{At, NoType, NoLogical, NoParameter}
 use Rattle.points.proofs.Rows.{row-at}
-use Rattle.points.proofs.Placed.{placed}
+use Rattle.points.proofs.Placed.{Placed, placed}
 use Rattle.values.proofs.Widths.{part-three}
 use Rattle.values.specs.Kinds.{nothing, isThere, isNumber, validTlp, numberTlp}
 
@@ -29,9 +29,16 @@ number-code single = refl
 number-code double = refl
 number-code tlp = refl
 
--- the kind by the row of a place that was found
-pub kind-found : (t l k r a n : ℕ) → placeOf gateway t l k ≡ At r a n → rowAt r ≡ row (indexOf t) k
-kind-found t l k r a n e = let p = placed gateway t l k r a n e in rw (p .row) (row-at (indexOf t) k (p .parameter))
+-- the row of a place that was found
+module _ (t l k : ℕ) (p : Place) (q : p ≡ placeOf gateway t l k) (r a n : ℕ) (g : p ≡ At r a n) where
+  pub found-placed : Placed gateway t l k r a n
+  found-placed = placed gateway t l k r a n (sym q ∙ g)
+
+  pub row-found : r < 175
+  row-found = found-placed .below
+
+  pub row-same : rowAt r ≡ row (indexOf t) k
+  row-same = rw (found-placed .row) (row-at (indexOf t) k (found-placed .parameter))
 
 -- a place found, or which number is wrong
 module _ (p : Place) where
@@ -78,15 +85,12 @@ module _ (t l k : ℕ) where
       number-missing g = rw (← e, h, ← q, ← g)
 
       module _ (r a n : ℕ) (g : p ≡ At r a n) where
-        pub row-found : r < 175
-        row-found = placed gateway t l k r a n (sym q ∙ g) .below
-
         -- c is its kind's code
         module _ (c : ℕ) (d : c ≡ rowKind (rowAt r)) where
           number-coded : both (leb 1 c) (leb c 4) ≡ numberTlp gateway (t ∷ l ∷ k ∷ [])
           unfolding numberTlp
           number-coded =
-              rw (← e, h, ← q, g, ← kind-found t l k r a n (sym q ∙ g), d) (sym (number-code (rowAt r .kind)))
+              rw (← e, h, ← q, g, ← row-same t l k p q r a n g, d) (sym (number-code (rowAt r .kind)))
 
           pub number-up : 1 ≤ c → leb c 4 ≡ numberTlp gateway (t ∷ l ∷ k ∷ [])
           number-up i = rw (← number-coded, le-leb 1 c i)

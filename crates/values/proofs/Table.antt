@@ -6,7 +6,7 @@ use mathlib.Core.List.{List, [], _∷_}
 use Prim.Native.Nat.{ℕ, _+_, _-_, _≤_, _<_}
 use native.Mathlib.Omega.{arith}
 use lib.Dec.{eqb, leb, ltb}
-use lib.ListN.{getD}
+use lib.ListN.{length, getD}
 use borrow.Author.Tests.{eqb-true, ltb-true, le-leb, ne-eqb}
 use Rattle.base.specs.Lists.{both, either, only}
 use Rattle.base.proofs.Below.{below, at-below, both-left, both-right}
@@ -99,3 +99,28 @@ module _ (r : ℕ) (h : r < 175) (c : ℕ) (e : c ≡ rowKind (rowAt r)) where
 
   pub tlp-long : c ≡ 5 → rowAt r .len ≡ 3
   tlp-long f = eqb-true _ _ (rw (kind-is 5 f) at (row-long r h))
+
+-- ---- room for a value in d from place a on, as much as its kind takes
+
+module _ (d : List ℕ) (a r : ℕ) (room : a + rowAt r .len ≤ length d) (h : r < 175) (c : ℕ) (e : c ≡ rowKind (rowAt r)) where
+  pub room-signed : c ≡ 2 → a < length d
+  room-signed f = omega (arith, signed-long r h c e f)
+
+  pub room-single : c ≡ 3 → a + 4 ≤ length d
+  room-single f = omega (arith, single-long r h c e f)
+
+  pub room-double : c ≡ 4 → a + 8 ≤ length d
+  room-double f = omega (arith, double-long r h c e f)
+
+-- n is the length that the code read
+module _ (r n : ℕ) (e : n ≡ rowAt r .len) where
+  pub room-long : (d : List ℕ) (a : ℕ) → a + rowAt r .len ≤ length d → a + n ≤ length d
+  room-long d a room = rw e room
+
+  pub whole-long : (h : r < 175) (c : ℕ) → c ≡ rowKind (rowAt r) → c ≡ 1 → whole n ≡ true
+  whole-long h c f g = rw e (unsigned-long r h c f g)
+
+  pub whole-number : (h : r < 175) → rowKind (rowAt r) ≡ 1 → whole n ≡ true
+  whole-number h f = whole-long h _ refl f
+
+pub ruleset rooms = (room-signed, room-single, room-double, room-long, whole-long, whole-number)

@@ -4,3 +4,4 @@ pub mod Pairs
 pub mod Number
 pub mod Weighed
 pub mod Weighable
+pub mod Bits

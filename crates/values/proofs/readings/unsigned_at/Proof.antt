@@ -1,10 +1,10 @@
--- `values::bits::unsigned_at` meets its contract.
+-- `values::readings::unsigned_at` meets its contract.
 -- Assumes nothing.
 use borrow.Author.Needs.{needs}
 use native.Mathlib.Omega.{arith}
 use Rattle.values.proofs.Widths.{of-one, of-two, of-four, whole·cases}
-use Rattle.values.proofs.bits.unsigned_at.Statement.{statement}
-use Rattle.values.proofs.bits.unsigned_at.Tie as tie
+use Rattle.values.proofs.readings.unsigned_at.Statement.{statement}
+use Rattle.values.proofs.readings.unsigned_at.Tie as tie
 
 shared-slice-read-result : tie.Need-shared-slice-read-result
 shared-slice-read-result c = search needs
