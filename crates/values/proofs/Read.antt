@@ -8,6 +8,7 @@ use native.Mathlib.Omega.{arith}
 use lib.IntN.{ℤ}
 use lib.Ieee.{Float, binary32, binary64, ofBits}
 use lib.ListN.{length, getD}
+use lib.Dec.{eqb}
 use borrow.Author.Tests.{eq-eqb, ne-eqb}
 use Rattle.base.specs.Bytes.{le}
 use Rattle.base.specs.Check.{Check, fault, pass, _>>=_, test}
@@ -109,3 +110,108 @@ module _ (s : List ℕ) (t l k : ℕ) where
           rw (store-bytes, eq-eqb (length s) 12427 h, ← q, g, ← value-same, ← row-same t l k p q r a n g) f
 
 pub ruleset held·cases = (held-uneven, held-no-type, held-no-logical, held-no-parameter, row-found, held-room, held-there)
+
+-- ---- what each reading makes of the bits
+
+readingBy : Bits → Reading
+readingBy (OfUnsigned n) = Got (Unsigned n)
+readingBy (OfSigned n) = Got (Signed (signedOf n))
+readingBy (OfSingle n) = Got (Single (ofBits binary32 n))
+readingBy (OfDouble n) = Got (Double (ofBits binary64 n))
+readingBy (No n) = Refused n
+
+reading-kind : (k : Kind) (v : List ℕ) → readingBy (bitsOf k v) ≡ readingOf (said k v)
+unfolding readingBy bitsOf readingOf said
+reading-kind text v = refl
+reading-kind unsigned v = refl
+reading-kind signed v = refl
+reading-kind single v = refl
+reading-kind double v = refl
+reading-kind tlp v = refl
+
+toldBy : ℕ → ℕ → Bits → Told
+toldBy k b (OfUnsigned n) = record { outcome = 0; kind = 0; bits = n }
+toldBy k b (OfSigned n) = record { outcome = 0; kind = 1; bits = n }
+toldBy k b (OfSingle n) = record { outcome = 0; kind = 2; bits = n }
+toldBy k b (OfDouble n) = record { outcome = 0; kind = 3; bits = n }
+toldBy k b (No n) = record { outcome = n; kind = k; bits = b }
+
+told-kind : (k b : ℕ) (q : Kind) (v : List ℕ) → toldBy k b (bitsOf q v) ≡ telling k b (raw q v)
+unfolding toldBy bitsOf telling raw
+told-kind k b text v = refl
+told-kind k b unsigned v = refl
+told-kind k b signed v = refl
+told-kind k b single v = refl
+told-kind k b double v = refl
+told-kind k b tlp v = refl
+
+-- two that refuse alike are alike, if they make the same of the bits
+module _ {X N : Type 0} (F : Bits → X) (G : Check N → X) (same : (n p : ℕ) → F (No n) ≡ G (fault n p)) where
+  past : {A : Type 0} (c : Check A) (f : A → Check Bits) (g : A → Check N) → ((a : A) → F (bitsIn (f a)) ≡ G (g a))
+      → F (bitsIn (c >>= f)) ≡ G (c >>= g)
+  unfolding bitsIn _>>=_
+  past (fault n p) f g h = same n p
+  past (pass a) f g h = h a
+
+  alike : (s : List ℕ) (t l k : ℕ) (g : Check N) → F (bitsOf (row (indexOf t) k .kind) (value gateway s (indexOf t) l k)) ≡ G g
+      → F (bitsIn (bitsRead gateway s t l k))
+      ≡ G (test (eqb (length s) (storeSize gateway)) 2 0 >>= λ _. there (placeOf gateway t l k) 0 0 0 >>= λ _. g)
+  unfolding bitsRead bitsIn
+  alike s t l k g h =
+      past (test (eqb (length s) (storeSize gateway)) 2 0) _ _ λ _. past (there (placeOf gateway t l k) 0 0 0) _ _ λ _. h
+
+-- x is the bits that the code found
+module _ (s : List ℕ) (t l k : ℕ) (x : Bits) (e : x ≡ bitsIn (bitsRead gateway s t l k)) where
+  reading : readingBy x ≡ readingOf (numberRead gateway s t l k)
+  unfolding numberRead readingBy readingOf
+  reading = rw e (alike readingBy readingOf (λ n p. refl) s t l k _ (reading-kind _ _))
+
+  pub read-unsigned : (n : ℕ) → x ≡ OfUnsigned n → Got (Unsigned n) ≡ readingOf (numberRead gateway s t l k)
+  unfolding readingBy
+  read-unsigned n f = rw (← reading, f)
+
+  pub read-signed : (n : ℕ) → x ≡ OfSigned n → (z : ℤ) → z ≡ signedOf n → Got (Signed z) ≡ readingOf (numberRead gateway s t l k)
+  unfolding readingBy
+  read-signed n f z g = rw (← reading, f, g)
+
+  pub read-single : (n : ℕ) → x ≡ OfSingle n → (z : Float) → z ≡ ofBits binary32 n → Got (Single z) ≡ readingOf (numberRead gateway s t l k)
+  unfolding readingBy
+  read-single n f z g = rw (← reading, f, g)
+
+  pub read-double : (n : ℕ) → x ≡ OfDouble n → (z : Float) → z ≡ ofBits binary64 n → Got (Double z) ≡ readingOf (numberRead gateway s t l k)
+  unfolding readingBy
+  read-double n f z g = rw (← reading, f, g)
+
+  pub read-not : (n : ℕ) → x ≡ No n → Refused n ≡ readingOf (numberRead gateway s t l k)
+  unfolding readingBy
+  read-not n f = rw (← reading, f)
+
+  -- c and b are what kind and bits hold before the call
+  module _ (c b : ℕ) where
+    told : toldBy c b x ≡ telling c b (rawRead gateway s t l k)
+    unfolding rawRead toldBy telling
+    told = rw e (alike (toldBy c b) (telling c b) (λ n p. refl) s t l k _ (told-kind c b _ _))
+
+    pub raw-unsigned : (n : ℕ) → x ≡ OfUnsigned n → record { outcome = 0; kind = 0; bits = n } ≡ telling c b (rawRead gateway s t l k)
+    unfolding toldBy
+    raw-unsigned n f = rw (← told, f)
+
+    pub raw-signed : (n : ℕ) → x ≡ OfSigned n → record { outcome = 0; kind = 1; bits = n } ≡ telling c b (rawRead gateway s t l k)
+    unfolding toldBy
+    raw-signed n f = rw (← told, f)
+
+    pub raw-single : (n : ℕ) → x ≡ OfSingle n → record { outcome = 0; kind = 2; bits = n } ≡ telling c b (rawRead gateway s t l k)
+    unfolding toldBy
+    raw-single n f = rw (← told, f)
+
+    pub raw-double : (n : ℕ) → x ≡ OfDouble n → record { outcome = 0; kind = 3; bits = n } ≡ telling c b (rawRead gateway s t l k)
+    unfolding toldBy
+    raw-double n f = rw (← told, f)
+
+    pub raw-not : (n : ℕ) → x ≡ No n → record { outcome = n; kind = c; bits = b } ≡ telling c b (rawRead gateway s t l k)
+    unfolding toldBy
+    raw-not n f = rw (← told, f)
+
+pub ruleset read·cases = (read-unsigned, read-signed, read-single, read-double, read-not)
+
+pub ruleset raw·cases = (raw-unsigned, raw-signed, raw-single, raw-double, raw-not)

@@ -82,7 +82,14 @@ pub fn number_read(store: &[u8], t: PointType, l: Logical, p: Parameter) -> Read
 }
 
 // A refusal leaves kind and bits as they were.
-pub fn raw_read(store: &[u8], t: PointType, l: Logical, p: Parameter, kind: &mut u8, bits: &mut u64) -> u8
+pub fn raw_read(
+    store: &[u8],
+    t: PointType,
+    l: Logical,
+    p: Parameter,
+    kind: &mut u8,
+    bits: &mut u64,
+) -> u8
     ensures { λ r. ⌜ record { outcome = r; kind = now (kind .exit); bits = now (bits .exit) }
         ≡ telling (now (kind .entry)) (now (bits .entry)) (rawRead gateway (now (store .entry)) (t .0) (l .0) (p .0)) ⌝ }
 {
