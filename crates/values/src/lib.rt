@@ -1,4 +1,14 @@
 // What a value may be, and what it says as a number.
+mod pairs;
+mod readings;
+mod tlps;
+mod weighing;
+
+pub use readings::number_read;
+pub use readings::raw_read;
+pub use tlps::number_tlp_ok;
+pub use tlps::tlp_ok;
+pub use weighing::weigh;
 ghost use mathlib.Core.Path.{_≡_};
 ghost use lib.Dec.{leb};
 ghost use lib.Ieee.{binary32, binary64, ofBits};
@@ -19,6 +29,15 @@ pub enum Number {
 pub enum Reading {
     Got(Number),
     Refused(u8),
+}
+
+// The bits of a number as they are stored, by its kind, or the outcome that refuses it. The widths are what both readings go by.
+enum Bits {
+    OfUnsigned(u32),
+    OfSigned(u8),
+    OfSingle(u32),
+    OfDouble(u64),
+    No(u8),
 }
 
 // What judging a value answers: fine, or the number of its fault with an offset into the value.
