@@ -1,0 +1,131 @@
+// The fill: the default of each parameter, written into the store.
+ghost use mathlib.Core.Path.{_≡_};
+ghost use mathlib.Core.List.{[], _∷_, _++_};
+ghost use mathlib.Core.Bool.{cond};
+ghost use Prim.Native.Nat.{_+_, _<_, _≤_};
+ghost use lib.ListN.{length, getD};
+ghost use lib.Dec.{eqb};
+ghost use Rattle.base.specs.Lists.{put};
+ghost use Rattle.base.specs.Bytes.{bytes, ascii, padded};
+ghost use Rattle.points.specs.Types.{gateway, logicals};
+ghost use Rattle.points.specs.Place.{offset};
+ghost use Rattle.points.specs.Columns.{rowAt};
+ghost use Rattle.points.specs.Row.{softPoint, segment, fullFirst};
+ghost use Rattle.store.specs.Fresh.{startOf, rowStart};
+ghost use Rattle.rules.specs.System.{fill};
+ghost use Rattle.fill.specs.Renewed.{renewed, rowWords, Room, Begins};
+
+// Document 01: the store has 12,427 bytes.
+const SIZE: usize = 12427;
+
+// The i-th byte of a text with spaces behind it.
+fn letter(text: &[u8], i: usize) -> u8
+    ensures { λ r. ⌜ r ≡ getD (now (text .entry)) i 32 ⌝ }
+{
+    if i < text.len() {
+        return text[i];
+    }
+    b' '
+}
+
+fn put_text(store: &mut [u8], at: usize, n: usize, text: &[u8])
+    requires { ⌜ at + n ≤ length (now store) ⌝ }
+    ensures { λ _. ⌜ now (store .exit) ≡ put (now (store .entry)) at (padded n (now (text .entry))) ⌝ }
+{
+    let mut i: usize = 0;
+    while i < n {
+        store[at + i] = letter(text, i);
+        i += 1;
+    }
+}
+
+fn put_figure(store: &mut [u8], at: usize, n: usize, x: u32)
+    requires { ⌜ at + n ≤ length (now store) ⌝ }
+    ensures { λ _. ⌜ now (store .exit) ≡ put (now (store .entry)) at (bytes n x) ⌝ }
+{
+    let mut rest = x;
+    let mut i: usize = 0;
+    while i < n {
+        store[at + i] = (rest % 256) as u8;
+        rest /= 256;
+        i += 1;
+    }
+}
+
+// Manual 3.4.8: the tags of type 97, ten bytes each. Every other text starts empty.
+fn put_words(store: &mut [u8], at: usize, row: usize)
+    requires { ⌜ Room (now store) at row ⌝ }
+    ensures { λ _. ⌜ now (store .exit) ≡ put (now (store .entry)) at (padded (rowAt row .len) (rowWords (rowAt row))) ⌝ }
+{
+    if row < 10 {
+        base::copy(
+            store,
+            at,
+            b"Register1 Register2 Register3 Register4 Register5 Register6 Register7 Register8 Register9 Register10",
+            row * 10,
+            10,
+        );
+        return;
+    }
+    put_text(store, at, points::length_at(row) as usize, b"");
+}
+
+// "Soft Pt x": x is the logical plus 1.
+fn put_soft(store: &mut [u8], at: usize, n: usize, l: points::Logical)
+    requires { ⌜ (at + n ≤ length (now store)) × (l .0 < 99) ⌝ }
+    ensures { λ _. ⌜ now (store .exit) ≡ put (now (store .entry)) at (startOf (l .0) n softPoint) ⌝ }
+{
+    let x = l.0 + 1;
+    let mut text = *b"Soft Pt   ";
+    if x < 10 {
+        text[8] = b'0' + x;
+        put_text(store, at, n, &text);
+        return;
+    }
+    text[8] = b'0' + x / 10;
+    text[9] = b'0' + x % 10;
+    put_text(store, at, n, &text);
+}
+
+fn put_segment(store: &mut [u8], at: usize, n: usize, l: points::Logical)
+    requires { ⌜ (at + n ≤ length (now store)) × (l .0 < 99) ⌝ }
+    ensures { λ _. ⌜ now (store .exit) ≡ put (now (store .entry)) at (startOf (l .0) n segment) ⌝ }
+{
+    let x = l.0;
+    if x == 0 {
+        put_text(store, at, n, b"General 00");
+        return;
+    }
+    let mut text = *b"Segment 00";
+    text[8] = b'0' + x / 10;
+    text[9] = b'0' + x % 10;
+    put_text(store, at, n, &text);
+}
+
+fn put_size(store: &mut [u8], at: usize, n: usize, l: points::Logical)
+    requires { ⌜ at + n ≤ length (now store) ⌝ }
+    ensures { λ _. ⌜ now (store .exit) ≡ put (now (store .entry)) at (startOf (l .0) n fullFirst) ⌝ }
+{
+    let x = l.0;
+    if x == 0 {
+        put_figure(store, at, n, 240);
+        return;
+    }
+    put_figure(store, at, n, 0);
+}
+
+fn put_default(store: &mut [u8], at: usize, row: usize, l: points::Logical)
+    requires { ⌜ Room (now store) at row ⌝ }
+    requires { ⌜ l .0 < 99 ⌝ }
+    ensures { λ _. ⌜ now (store .exit) ≡ put (now (store .entry)) at (rowStart (l .0) (rowAt row)) ⌝ }
+{
+    let n = points::length_at(row) as usize;
+    let form = points::default_at(row);
+    match form {
+        0 => put_figure(store, at, n, points::figure_at(row)),
+        1 => put_words(store, at, row),
+        2 => put_soft(store, at, n, l),
+        3 => put_segment(store, at, n, l),
+        _ => put_size(store, at, n, l),
+    }
+}
