@@ -1,4 +1,5 @@
 use borrow.Author.Needs.{needs}
+use Rattle.fill.proofs.Defaults.{named·cases}
 use Rattle.fill.proofs.put_segment.Statement.{statement}
 use Rattle.fill.proofs.put_segment.Tie as tie
 use Rattle.fill.proofs.put_segment.Reads as reads
@@ -19,7 +20,7 @@ same-length c = search needs
 
 -- src/lib.rt:97:9
 returns : tie.Need-returns
-returns c = ?
+returns c = search (needs, named·cases)
 
 -- src/lib.rt:100:15
 add-text : tie.Need-add-text
@@ -51,7 +52,7 @@ same-length-2 c = search needs
 
 -- src/lib.rt:90:1
 returns-2 : tie.Need-returns-2
-returns-2 c = ?
+returns-2 c = search (needs, named·cases)
 
 pub put-segment-spec : {M : Type 1} → statement M
 put-segment-spec =

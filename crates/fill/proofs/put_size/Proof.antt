@@ -1,4 +1,5 @@
 use borrow.Author.Needs.{needs}
+use Rattle.fill.proofs.Defaults.{named·cases}
 use Rattle.fill.proofs.put_size.Statement.{statement}
 use Rattle.fill.proofs.put_size.Tie as tie
 use Rattle.fill.proofs.put_size.Reads as reads
@@ -15,7 +16,7 @@ same-length c = search needs
 
 -- src/lib.rt:112:9
 returns : tie.Need-returns
-returns c = ?
+returns c = search (needs, named·cases)
 
 -- src/lib.rt:114:5
 put-figure-requires-2 : tie.Need-put-figure-requires-2
@@ -27,7 +28,7 @@ same-length-2 c = search needs
 
 -- src/lib.rt:105:1
 returns-2 : tie.Need-returns-2
-returns-2 c = ?
+returns-2 c = search (needs, named·cases)
 
 pub put-size-spec : {M : Type 1} → statement M
 put-size-spec =

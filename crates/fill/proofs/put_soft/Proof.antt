@@ -1,4 +1,5 @@
 use borrow.Author.Needs.{needs}
+use Rattle.fill.proofs.Defaults.{named·cases}
 use Rattle.fill.proofs.put_soft.Statement.{statement}
 use Rattle.fill.proofs.put_soft.Tie as tie
 use Rattle.fill.proofs.put_soft.Reads as reads
@@ -31,7 +32,7 @@ same-length c = search needs
 
 -- src/lib.rt:83:9
 returns : tie.Need-returns
-returns c = ?
+returns c = search (needs, named·cases)
 
 -- src/lib.rt:85:15
 add-text-2 : tie.Need-add-text-2
@@ -63,7 +64,7 @@ same-length-2 c = search needs
 
 -- src/lib.rt:74:1
 returns-2 : tie.Need-returns-2
-returns-2 c = ?
+returns-2 c = search (needs, named·cases)
 
 pub put-soft-spec : {M : Type 1} → statement M
 put-soft-spec =

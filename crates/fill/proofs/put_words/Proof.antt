@@ -1,4 +1,5 @@
 use borrow.Author.Needs.{needs}
+use Rattle.fill.proofs.Defaults.{words·cases}
 use Rattle.fill.proofs.put_words.Statement.{statement}
 use Rattle.fill.proofs.put_words.Tie as tie
 use Rattle.fill.proofs.put_words.Reads as reads
@@ -17,7 +18,7 @@ mul-copy c = search needs
 
 -- src/lib.rt:61:9
 copy-requires : tie.Need-copy-requires
-copy-requires c κs = ?
+copy-requires c κs = search (needs, words·cases)
 
 -- src/lib.rt:68:9
 same-length : tie.Need-same-length
@@ -25,7 +26,7 @@ same-length c = search needs
 
 -- src/lib.rt:68:9
 returns : tie.Need-returns
-returns c = ?
+returns c = search (needs, words·cases)
 
 -- src/lib.rt:70:25
 length-at-requires : tie.Need-length-at-requires
@@ -49,7 +50,7 @@ same-length-2 c = search needs
 
 -- src/lib.rt:56:1
 returns-2 : tie.Need-returns-2
-returns-2 c = ?
+returns-2 c = search (needs, words·cases)
 
 pub put-words-spec : {M : Type 1} → statement M
 put-words-spec =

@@ -1,0 +1,93 @@
+-- The cases of a default: what each form of it leaves, as the code writes it.
+-- Assumes nothing.
+use mathlib.Core.Path.{_≡_, refl, sym, ap, _∙_}
+use mathlib.Core.List.{List, [], _∷_, _++_, map}
+use Prim.Native.Nat.{ℕ, zero, suc, _+_, _-_, _*_, _/_, _%_, _≤_, _<_}
+use native.Mathlib.Nat.{zero-add, not-suc-le-zero}
+use native.Mathlib.Omega.{arith}
+use borrow.Author.Tests.{lt-ltb, le-ltb, eq-eqb, ne-eqb, eqb-true}
+use lib.Dec.{eqb}
+use lib.ListN.{length, getD, drop, List·getD-map}
+use lib.Seq.{getD-drop}
+use Rattle.base.specs.Lists.{part, put, joined, upward}
+use Rattle.base.specs.Bytes.{bytes, ascii, padded}
+use Rattle.base.proofs.Below.{at-below, entry-small}
+use Rattle.base.proofs.Joined.{upward-part}
+use Rattle.points.specs.Row.{Row, Default, figure, words, softPoint, segment, fullFirst, noRow}
+use Rattle.points.specs.Columns.{allRows, rowAt, defaultCode, figureOf, rowDefault, rowFigure}
+use Rattle.store.specs.Fresh.{twoDigits, digits, startOf, rowStart}
+use Rattle.store.proofs.Fresh.{length-start}
+use Rattle.fill.specs.Renewed.{wordsOf, rowWords}
+
+-- ---- texts that name the logical
+
+-- a space behind a text is one of those that follow it
+padded-space : (w : List ℕ) (n : ℕ) → padded n (w ++ (32 ∷ [])) ≡ padded n w
+padded-space w zero = refl
+padded-space [] (suc n) = refl
+padded-space (x ∷ w) (suc n) = ap (λ (l : List ℕ). x ∷ l) (padded-space w n)
+
+module _ (z s : List ℕ) (at n l : ℕ) where
+  pub soft-one : l + 1 < 10 → z ≡ put s at (padded n (ascii "Soft Pt " ++ ((48 + (l + 1)) ∷ 32 ∷ []))) → z ≡ put s at (startOf l n softPoint)
+  soft-one h e = simp (lt-ltb (l + 1) 10 h, ← padded-space (ascii "Soft Pt " ++ ((48 + (l + 1)) ∷ []))) e
+
+  pub soft-two : 10 ≤ l + 1 → z ≡ put s at (padded n (ascii "Soft Pt " ++ twoDigits (l + 1))) → z ≡ put s at (startOf l n softPoint)
+  soft-two h e = simp (le-ltb (l + 1) 10 h) e
+
+  pub segment-first : l ≡ 0 → z ≡ put s at (padded n (ascii "General 00")) → z ≡ put s at (startOf l n segment)
+  segment-first h e = simp (eq-eqb l 0 h) e
+
+  pub segment-other : (l ≡ 0 → ⊥) → z ≡ put s at (padded n (ascii "Segment " ++ twoDigits l)) → z ≡ put s at (startOf l n segment)
+  segment-other h e = simp (ne-eqb l 0 h) e
+
+  pub size-first : l ≡ 0 → z ≡ put s at (bytes n 240) → z ≡ put s at (startOf l n fullFirst)
+  size-first h e = simp (eq-eqb l 0 h) e
+
+  pub size-other : (l ≡ 0 → ⊥) → z ≡ put s at (bytes n 0) → z ≡ put s at (startOf l n fullFirst)
+  size-other h e = simp (ne-eqb l 0 h) e
+
+pub ruleset named·cases = (soft-one, soft-two, segment-first, segment-other, size-first, size-other)
+
+-- ---- texts by row: the tags of the first ten rows, and none in the others
+
+abbrev tags : List ℕ
+tags = ascii "Register1 Register2 Register3 Register4 Register5 Register6 Register7 Register8 Register9 Register10"
+
+-- the r-th ten bytes
+tag-at : (r : ℕ) → r < 10 → part tags (r * 10) 10 ≡ padded 10 (rowWords (rowAt r))
+unfolding rowAt
+tag-at r h =
+    let tag : ℕ → List ℕ = λ j. padded 10 (rowWords (rowAt j)) in
+    upward-part tag 10 (λ j. length-start 0 10 (words (rowWords (rowAt j)))) 10 0 r h ∙ ap tag (zero-add r)
+
+tag-long : (r : ℕ) → r < 10 → rowAt r .len ≡ 10
+unfolding rowAt
+tag-long r h = eqb-true _ _ (at-below 10 (λ j. eqb (rowAt j .len) 10) refl r h)
+
+abbrev wordsLong : Row → ℕ
+wordsLong r = length (rowWords r)
+
+none-long : (w : List ℕ) → length w ≤ 0 → w ≡ []
+none-long [] h = refl
+none-long (x ∷ w) h = absurd (not-suc-le-zero h)
+
+no-words : (r : ℕ) → 10 ≤ r → rowWords (rowAt r) ≡ []
+unfolding rowAt
+no-words r h =
+    let e : 10 + (r - 10) ≡ r = omega arith in
+    let row : getD (drop 10 allRows) (r - 10) noRow ≡ rowAt r = getD-drop 10 allRows (r - 10) noRow ∙ ap rowAt e in
+    let k : wordsLong (getD (drop 10 allRows) (r - 10) noRow) ≤ 0 =
+    rw (← List·getD-map wordsLong (drop 10 allRows) (r - 10) noRow) (entry-small 0 (map wordsLong (drop 10 allRows)) refl (r - 10)) in
+    none-long (rowWords (rowAt r)) (rw row at k)
+
+module _ (z s : List ℕ) (at r : ℕ) where
+  pub tag-room : r < 10 → at + rowAt r .len ≤ length s → at + 10 ≤ length s
+  tag-room h k = omega (arith, tag-long r h)
+
+  pub tag-put : r < 10 → z ≡ put s at (part tags (r * 10) 10) → z ≡ put s at (padded (rowAt r .len) (rowWords (rowAt r)))
+  tag-put h e = rw (tag-long r h) (e ∙ ap (put s at) (tag-at r h))
+
+  pub none-put : (n : ℕ) → 10 ≤ r → n ≡ rowAt r .len → z ≡ put s at (padded n []) → z ≡ put s at (padded (rowAt r .len) (rowWords (rowAt r)))
+  none-put n h k e = rw (no-words r h, ← k) e
+
+pub ruleset words·cases = (tag-room, tag-put, none-put)
