@@ -91,3 +91,47 @@ module _ (z s : List ℕ) (at r : ℕ) where
   none-put n h k e = rw (no-words r h, ← k) e
 
 pub ruleset words·cases = (tag-room, tag-put, none-put)
+
+-- ---- a default by the number that stands for its form
+
+byCode : ℕ → (l n x : ℕ) → List ℕ → List ℕ
+byCode zero l n x w = bytes n x
+byCode (suc zero) l n x w = padded n w
+byCode (suc (suc zero)) l n x w = startOf l n softPoint
+byCode (suc (suc (suc zero))) l n x w = startOf l n segment
+byCode (suc (suc (suc (suc c)))) l n x w = startOf l n fullFirst
+
+by-code : (l n : ℕ) (d : Default) → startOf l n d ≡ byCode (defaultCode d) l n (figureOf d) (wordsOf d)
+unfolding byCode
+by-code l n (figure x) = refl
+by-code l n (words w) = refl
+by-code l n softPoint = refl
+by-code l n segment = refl
+by-code l n fullFirst = refl
+
+module _ (z s : List ℕ) (at l : ℕ) (r : Row) (c : ℕ) (e : c ≡ rowDefault r) where
+  with-code : (k : ℕ) → c ≡ k → rowStart l r ≡ byCode k l (r .len) (rowFigure r) (rowWords r)
+  with-code k h = by-code l (r .len) (r .default) ∙ ap (λ (j : ℕ). byCode j l (r .len) (rowFigure r) (rowWords r)) (sym e ∙ h)
+
+  pub default-figure : (n x : ℕ) → c ≡ 0 → n ≡ r .len → x ≡ rowFigure r → z ≡ put s at (bytes n x) → z ≡ put s at (rowStart l r)
+  unfolding byCode
+  default-figure n x h en ex ez = rw (with-code 0 h, ← en, ← ex) ez
+
+  pub default-words : c ≡ 1 → z ≡ put s at (padded (r .len) (rowWords r)) → z ≡ put s at (rowStart l r)
+  unfolding byCode
+  default-words h ez = rw (with-code 1 h) ez
+
+  pub default-soft : (n : ℕ) → c ≡ 2 → n ≡ r .len → z ≡ put s at (startOf l n softPoint) → z ≡ put s at (rowStart l r)
+  unfolding byCode
+  default-soft n h en ez = rw (with-code 2 h, ← en) ez
+
+  pub default-segment : (n : ℕ) → c ≡ 3 → n ≡ r .len → z ≡ put s at (startOf l n segment) → z ≡ put s at (rowStart l r)
+  unfolding byCode
+  default-segment n h en ez = rw (with-code 3 h, ← en) ez
+
+  pub default-size : (n : ℕ) → (c ≡ 0 → ⊥) → (c ≡ 1 → ⊥) → (c ≡ 2 → ⊥) → (c ≡ 3 → ⊥) → n ≡ r .len → z ≡ put s at (startOf l n fullFirst)
+      → z ≡ put s at (rowStart l r)
+  unfolding byCode
+  default-size n h0 h1 h2 h3 en ez = rw (with-code (suc (suc (suc (suc (c - 4))))) (omega arith), ← en) ez
+
+pub ruleset default·cases = (default-figure, default-words, default-soft, default-segment, default-size)

@@ -1,4 +1,5 @@
 use borrow.Author.Needs.{needs}
+use Rattle.fill.proofs.Defaults.{default·cases}
 use Rattle.fill.proofs.put_default.Statement.{statement}
 use Rattle.fill.proofs.put_default.Tie as tie
 use Rattle.fill.proofs.put_default.Reads as reads
@@ -54,7 +55,7 @@ same-length c = search needs
 
 -- src/lib.rt:117:1
 returns : tie.Need-returns
-returns c = ?
+returns c = search (needs, default·cases)
 
 -- src/lib.rt:117:1
 same-length-2 : tie.Need-same-length-2
@@ -62,7 +63,7 @@ same-length-2 c = search needs
 
 -- src/lib.rt:117:1
 returns-2 : tie.Need-returns-2
-returns-2 c = ?
+returns-2 c = search (needs, default·cases)
 
 -- src/lib.rt:117:1
 same-length-3 : tie.Need-same-length-3
@@ -70,7 +71,7 @@ same-length-3 c = search needs
 
 -- src/lib.rt:117:1
 returns-3 : tie.Need-returns-3
-returns-3 c = ?
+returns-3 c = search (needs, default·cases)
 
 -- src/lib.rt:117:1
 same-length-4 : tie.Need-same-length-4
@@ -78,7 +79,7 @@ same-length-4 c = search needs
 
 -- src/lib.rt:117:1
 returns-4 : tie.Need-returns-4
-returns-4 c = ?
+returns-4 c = search (needs, default·cases)
 
 -- src/lib.rt:117:1
 same-length-5 : tie.Need-same-length-5
@@ -86,7 +87,7 @@ same-length-5 c = search needs
 
 -- src/lib.rt:117:1
 returns-5 : tie.Need-returns-5
-returns-5 c = ?
+returns-5 c = search (needs, default·cases)
 
 pub put-default-spec : {M : Type 1} → statement M
 put-default-spec =
