@@ -17,7 +17,7 @@ use Rattle.points.specs.Row.{Row, Default, figure, words, softPoint, segment, f
 use Rattle.points.specs.Columns.{allRows, rowAt, defaultCode, figureOf, rowDefault, rowFigure}
 use Rattle.store.specs.Fresh.{twoDigits, digits, startOf, rowStart}
 use Rattle.store.proofs.Fresh.{length-start}
-use Rattle.fill.specs.Renewed.{wordsOf, rowWords}
+use Rattle.fill.specs.Steps.{wordsOf, rowWords}
 
 -- ---- texts that name the logical
 

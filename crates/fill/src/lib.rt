@@ -13,7 +13,7 @@ ghost use Rattle.points.specs.Columns.{rowAt};
 ghost use Rattle.points.specs.Row.{softPoint, segment, fullFirst};
 ghost use Rattle.store.specs.Fresh.{startOf, rowStart};
 ghost use Rattle.rules.specs.System.{fill};
-ghost use Rattle.fill.specs.Renewed.{renewed, rowWords, Room, Begins};
+ghost use Rattle.fill.specs.Steps.{renewed, rowWords, Room, Begins};
 
 // Document 01: the store has 12,427 bytes.
 const SIZE: usize = 12427;
