@@ -1,13 +1,14 @@
 -- A fill goes on: by one parameter, from a logical to the next, from a type to the next, and to the end of the store.
 -- Assumes nothing.
 use mathlib.Core.Path.{_≡_, refl, sym, ap, _∙_}
-use mathlib.Core.List.{List, [], _∷_, _++_}
+use mathlib.Core.List.{List, [], _∷_, _++_, append-nil}
 use Prim.Native.Nat.{ℕ, zero, suc, _+_, _-_, _*_, _≤_, _<_}
+use native.Mathlib.Nat.{zero-add, sub-zero}
 use native.Mathlib.Numerals.{add-one}
 use native.Mathlib.Omega.{arith}
 use lib.Dec.{leb}
-use lib.ListN.{length}
-use lib.Seq.{take-length}
+use lib.ListN.{length, take, drop, drop-of-length-le}
+use lib.Seq.{take-all}
 use Rattle.base.specs.Lists.{part, put}
 use Rattle.base.proofs.Below.{entry-small}
 use Rattle.base.proofs.Parts.{length-part, length-put, put-join}
@@ -52,11 +53,21 @@ length-renewed s a c whole h k =
     let l : length (part (fresh gateway) a (c - a)) ≡ c - a = length-part (fresh gateway) a (c - a) (omega (arith, length-fresh gateway)) in
     length-put s (part (fresh gateway) a (c - a)) a (omega arith)
 
+-- the whole store
+renewed-all : (s : List ℕ) → length s ≡ storeSize gateway → renewed s 0 (storeSize gateway) ≡ fresh gateway
+unfolding renewed put part
+renewed-all s whole =
+    let e : take (storeSize gateway) (fresh gateway) ≡ fresh gateway = take-all (storeSize gateway) (fresh gateway) (omega (arith, length-fresh gateway)) in
+    let h : length s ≤ storeSize gateway = omega arith in
+    let d : drop (storeSize gateway) s ≡ [] = drop-of-length-le s h in
+    rw (sub-zero, e, zero-add, length-fresh gateway, d) (append-nil (fresh gateway))
+
 -- ---- the steps
 
 -- nothing is filled yet
-pub filled-none : (s : List ℕ) (at i l : ℕ) → at ≡ offset gateway i l 0 → at ≤ storeSize gateway → Filled s s at at i l 0
-filled-none s at i l e h = record { done = renewed-none s at; long = refl; reached = e; onward = omega arith; inside = h }
+pub filled-none : (s : List ℕ) (at i l : ℕ) → Begins s at i l → Filled s s at at i l 0
+filled-none s at i l b =
+    record { done = renewed-none s at; long = refl; reached = b .begin; onward = omega arith; inside = b .inside }
 
 -- one fill, and another from where it ended
 pub filled-on : (s₀ s z : List ℕ) (from at to i l k j m n : ℕ) → length s₀ ≡ storeSize gateway
@@ -70,45 +81,80 @@ filled-on s₀ s z from at to i l k j m n whole p q =
       inside = q .inside;
     }
 
-module _ (s : List ℕ) (at i l k : ℕ) (whole : length s ≡ storeSize gateway) (begin : at ≡ offset gateway i l k)
-    (hl : l < logicals gateway i) (hk : k < height (point i)) where
-  -- a parameter's row, and room for it
-  pub has-room : Room s at (first i + k)
-  has-room =
-      record {
-        below = row-below i k hk;
-        room = rw (row-length i k hk, begin, whole) (fits gateway i l k hl);
-      }
+-- a turn over the parameters of a logical, at parameter k of m
+module _ (s₀ s : List ℕ) (from at i l k f m : ℕ) (b : Begins s₀ from i l) (hl : l < logicals gateway i)
+    (ef : f ≡ first i) (em : m ≡ height (point i)) (hk : k < m) (p : Filled s₀ s from at i l k) where
+  k-below : k < height (point i)
+  k-below = omega arith
 
-  -- its default is what the fresh store has there
-  pub one-filled : (z : List ℕ) (n : ℕ) → z ≡ put s at (rowStart l (rowAt (first i + k))) → n ≡ rowAt (first i + k) .len → Filled s z at (at + n) i l (k + 1)
+  whole : length s ≡ storeSize gateway
+  whole = p .long ∙ b .whole
+
+  is-row : rowAt (f + k) ≡ row i k
+  is-row = rw ef (row-at i k k-below)
+
+  is-long : rowAt (f + k) .len ≡ lenAt i k
+  is-long = rw ef (row-length i k k-below)
+
+  pub row-there : f + k < 175
+  row-there = rw ef (row-below i k k-below)
+
+  pub end-inside : (n : ℕ) → n ≡ rowAt (f + k) .len → at + n ≤ storeSize gateway
+  end-inside n en = rw (en, is-long, p .reached) (fits gateway i l k hl)
+
+  pub has-room : Room s at (f + k)
+  has-room = record { below = row-there; room = rw whole (end-inside (rowAt (f + k) .len) refl) }
+
+  -- the default is what the fresh store has there
+  pub one-more : (z : List ℕ) (n : ℕ) → z ≡ put s at (rowStart l (rowAt (f + k))) → n ≡ rowAt (f + k) .len → Filled s₀ z from (at + n) i l (k + 1)
   unfolding renewed value defaultOf
-  one-filled z n ez en =
-      let en′ : n ≡ lenAt i k = en ∙ row-length i k hk in
-      let ds : rowStart l (rowAt (first i + k)) ≡ part (fresh gateway) at (at + n - at) =
-      let w : at + n - at ≡ lenAt i k = omega arith in
-      rw (w, begin) (ap (rowStart l) (row-at i k hk) ∙ sym (value-fresh gateway i l k hl)) in
+  one-more z n ez en =
+      let w : at + n - at ≡ lenAt i k = omega (arith, is-long) in
+      let ds : rowStart l (rowAt (f + k)) ≡ part (fresh gateway) at (at + n - at) =
+      rw (w, p .reached) (ap (rowStart l) is-row ∙ sym (value-fresh gateway i l k hl)) in
       let d : z ≡ renewed s at (at + n) = rw ds at ez in
-      let inside : at + n ≤ storeSize gateway = rw (begin, en′) (fits gateway i l k hl) in
-      record {
+      filled-on s₀ s z from at (at + n) i l k i l (k + 1) (b .whole) p
+      (record {
         done = d;
-        long = ap length d ∙ length-renewed s at (at + n) whole (omega arith) inside;
-        reached = rw (add-one k) (omega (arith, next-parameter gateway i l k));
+        long = ap length d ∙ length-renewed s at (at + n) whole (omega arith) (end-inside n en);
+        reached = rw (add-one k) (omega (arith, next-parameter gateway i l k, p .reached, is-long));
         onward = omega arith;
-        inside = inside;
-      }
+        inside = end-inside n en;
+      })
 
 -- the last parameter's end is the next logical's beginning, the last logical's the next type's, and the last type's the store's
-pub next-begins : (s₀ s : List ℕ) (from at i l k : ℕ) → height (point i) ≤ k → k ≤ height (point i)
-    → Filled s₀ s from at i l k → Filled s₀ s from at i (l + 1) 0
-next-begins s₀ s from at i l k h h′ p =
-    let e : k ≡ height (point i) = omega arith in
-    let r : offset gateway i (l + 1) 0 ≡ offset gateway i l k = rw (add-one l, e) (next-logical gateway i l) in
-    record { done = p .done; long = p .long; reached = p .reached ∙ sym r; onward = p .onward; inside = p .inside }
+module _ (s₀ s : List ℕ) (from at i l k : ℕ) (p : Filled s₀ s from at i l k) where
+  elsewhere : (j m n : ℕ) → offset gateway j m n ≡ offset gateway i l k → Filled s₀ s from at j m n
+  elsewhere j m n e = record { done = p .done; long = p .long; reached = p .reached ∙ sym e; onward = p .onward; inside = p .inside }
 
-pub type-begins : (s₀ s : List ℕ) (from at i l : ℕ) → logicals gateway i ≤ l → l ≤ logicals gateway i
-    → Filled s₀ s from at i l 0 → Filled s₀ s from at (i + 1) 0 0
-type-begins s₀ s from at i l h h′ p =
+  pub next-begins : (m : ℕ) → m ≡ height (point i) → m ≤ k → k ≤ m → Filled s₀ s from at i (l + 1) 0
+  next-begins m em h h′ =
+      let e : k ≡ height (point i) = omega arith in
+      elsewhere i (l + 1) 0 (rw (add-one l, e) (next-logical gateway i l))
+
+pub type-begins : (s₀ s : List ℕ) (from at i l n : ℕ) → Filled s₀ s from at i l 0 → n ≡ logicals gateway i → n ≤ l → l ≤ n
+    → Filled s₀ s from at (i + 1) 0 0
+type-begins s₀ s from at i l n p en h h′ =
     let e : l ≡ logicals gateway i = omega arith in
-    let r : offset gateway (i + 1) 0 0 ≡ offset gateway i l 0 = rw (add-one i, e) (next-type gateway i) in
-    record { done = p .done; long = p .long; reached = p .reached ∙ sym r; onward = p .onward; inside = p .inside }
+    elsewhere s₀ s from at i l 0 p (i + 1) 0 0 (rw (add-one i, e) (next-type gateway i))
+
+pub store-begins : 0 ≡ offset gateway 0 0 0
+unfolding offset base within point
+store-begins = refl
+
+store-ends : offset gateway 6 0 0 ≡ storeSize gateway
+unfolding offset base within point storeSize areas gateway
+store-ends = refl
+
+-- no type has as many logicals as two digits do not name
+pub logical-small : (i l : ℕ) → l < logicals gateway i → l < 99
+unfolding logicals gateway
+logical-small i l h = omega (arith, entry-small 32 (counts gateway) refl i)
+
+pub all-filled : (s₀ s : List ℕ) (at i : ℕ) → length s₀ ≡ storeSize gateway → 6 ≤ i → i ≤ 6 → Filled s₀ s 0 at i 0 0 → s ≡ fresh gateway
+all-filled s₀ s at i whole h h′ p =
+    let e : i ≡ 6 = omega arith in
+    let r : at ≡ storeSize gateway = p .reached ∙ ap (λ (j : ℕ). offset gateway j 0 0) e ∙ store-ends in
+    p .done ∙ ap (renewed s₀ 0) r ∙ renewed-all s₀ whole
+
+pub ruleset parameter·turn = (filled-none, row-there, has-room, one-more, logical-small, next-begins)

@@ -13,7 +13,7 @@ ghost use Rattle.points.specs.Columns.{rowAt};
 ghost use Rattle.points.specs.Row.{softPoint, segment, fullFirst};
 ghost use Rattle.store.specs.Fresh.{startOf, rowStart};
 ghost use Rattle.rules.specs.System.{fill};
-ghost use Rattle.fill.specs.Steps.{renewed, rowWords, Room, Begins};
+ghost use Rattle.fill.specs.Steps.{rowWords, Room, Begins, Filled};
 
 // Document 01: the store has 12,427 bytes.
 const SIZE: usize = 12427;
@@ -128,4 +128,53 @@ fn put_default(store: &mut [u8], at: usize, row: usize, l: points::Logical)
         3 => put_segment(store, at, n, l),
         _ => put_size(store, at, n, l),
     }
+}
+
+// One logical's parameters, from its place on. The answer is the place behind them.
+fn fill_logical(store: &mut [u8], at: usize, i: usize, l: points::Logical) -> usize
+    requires { ⌜ Begins (now store) at i (l .0) ⌝ }
+    requires { ⌜ l .0 < logicals gateway i ⌝ }
+    ensures { λ r. ⌜ Filled (now (store .entry)) (now (store .exit)) at r i (l .0 + 1) 0 ⌝ }
+{
+    let first = points::first_of(i) as usize;
+    let height = points::height_of(i) as usize;
+    let mut next = at;
+    let mut k: usize = 0;
+    while k < height {
+        let row = first + k;
+        put_default(store, next, row, l);
+        next += points::length_at(row) as usize;
+        k += 1;
+    }
+    next
+}
+
+fn fill_type(store: &mut [u8], at: usize, i: usize) -> usize
+    requires { ⌜ Begins (now store) at i 0 ⌝ }
+    ensures { λ r. ⌜ Filled (now (store .entry)) (now (store .exit)) at r (i + 1) 0 0 ⌝ }
+{
+    let n = points::logicals_of(i);
+    let mut next = at;
+    let mut l: u8 = 0;
+    while l < n {
+        next = fill_logical(store, next, i, points::Logical(l));
+        l += 1;
+    }
+    next
+}
+
+// Document 01: outcome 2 where the store has another length, or the defaults.
+pub fn fill(store: &mut [u8]) -> u8
+    ensures { λ r. ⌜ record { outcome = r; store = now (store .exit) } ≡ fill gateway (now (store .entry)) ⌝ }
+{
+    if store.len() != SIZE {
+        return 2;
+    }
+    let mut at: usize = 0;
+    let mut i: usize = 0;
+    while i < 6 {
+        at = fill_type(store, at, i);
+        i += 1;
+    }
+    0
 }
