@@ -6,7 +6,7 @@ use Prim.Native.Nat.{ℕ, zero, suc, _+_, _-_, _*_, _≤_, _<_}
 use native.Mathlib.Nat.{zero-add, sub-zero}
 use native.Mathlib.Numerals.{add-one}
 use native.Mathlib.Omega.{arith}
-use lib.Dec.{leb}
+use borrow.Author.Tests.{eq-eqb, ne-eqb}
 use lib.ListN.{length, take, drop, drop-of-length-le}
 use lib.Seq.{take-all}
 use Rattle.base.specs.Lists.{part, put}
@@ -16,11 +16,13 @@ use Rattle.base.proofs.Numbers.{part-add}
 use Rattle.points.specs.Types.{point, height, row, logicals, counts, gateway}
 use Rattle.points.specs.Place.{first, base, each, areas, within, lenAt, offset, storeSize}
 use Rattle.points.specs.Columns.{rowAt}
+use Rattle.points.specs.Sums.{store-bytes}
 use Rattle.points.proofs.Laws.{fits, next-parameter}
 use Rattle.points.proofs.Rows.{row-below, row-at, row-length}
 use Rattle.store.specs.Store.{value}
 use Rattle.store.specs.Fresh.{rowStart, defaultOf, fresh}
 use Rattle.store.proofs.Fresh.{value-fresh, length-start, length-fresh, next-logical, next-type}
+use Rattle.rules.specs.System.{Left, fill}
 use Rattle.fill.specs.Steps.{Room, renewed, Begins, Filled}
 use Rattle.fill.proofs.Writing.{put-none}
 
@@ -138,7 +140,14 @@ type-begins s₀ s from at i l n p en h h′ =
     let e : l ≡ logicals gateway i = omega arith in
     elsewhere s₀ s from at i l 0 p (i + 1) 0 0 (rw (add-one i, e) (next-type gateway i))
 
-pub store-begins : 0 ≡ offset gateway 0 0 0
+-- no type has as many logicals as two digits do not name
+pub logical-small : (i l : ℕ) → l < logicals gateway i → l < 99
+unfolding logicals gateway
+logical-small i l h = omega (arith, entry-small 32 (counts gateway) refl i)
+
+-- ---- the whole fill
+
+store-begins : 0 ≡ offset gateway 0 0 0
 unfolding offset base within point
 store-begins = refl
 
@@ -146,15 +155,33 @@ store-ends : offset gateway 6 0 0 ≡ storeSize gateway
 unfolding offset base within point storeSize areas gateway
 store-ends = refl
 
--- no type has as many logicals as two digits do not name
-pub logical-small : (i l : ℕ) → l < logicals gateway i → l < 99
-unfolding logicals gateway
-logical-small i l h = omega (arith, entry-small 32 (counts gateway) refl i)
+pub refused : (s : List ℕ) → (length s ≡ 12427 → ⊥) → record { outcome = 2; store = s } ≡ fill gateway s
+unfolding fill
+refused s h = simp (ne-eqb (length s) (storeSize gateway) (λ e. h (e ∙ store-bytes)))
 
-pub all-filled : (s₀ s : List ℕ) (at i : ℕ) → length s₀ ≡ storeSize gateway → 6 ≤ i → i ≤ 6 → Filled s₀ s 0 at i 0 0 → s ≡ fresh gateway
-all-filled s₀ s at i whole h h′ p =
-    let e : i ≡ 6 = omega arith in
-    let r : at ≡ storeSize gateway = p .reached ∙ ap (λ (j : ℕ). offset gateway j 0 0) e ∙ store-ends in
-    p .done ∙ ap (renewed s₀ 0) r ∙ renewed-all s₀ whole
+module _ (s₀ : List ℕ) (long : length s₀ ≡ 12427) where
+  is-whole : length s₀ ≡ storeSize gateway
+  is-whole = long ∙ sym store-bytes
+
+  pub store-filled-none : Filled s₀ s₀ 0 0 0 0 0
+  store-filled-none = filled-none s₀ 0 0 0 (record { whole = is-whole; known = omega arith; begin = store-begins; inside = omega arith })
+
+  module _ (s : List ℕ) (at i : ℕ) (p : Filled s₀ s 0 at i 0 0) where
+    pub type-ready : i < 6 → Begins s at i 0
+    type-ready h = record { whole = p .long ∙ is-whole; known = h; begin = p .reached; inside = p .inside }
+
+    pub type-more : (z : List ℕ) (to : ℕ) → Filled s z at to (i + 1) 0 0 → Filled s₀ z 0 to (i + 1) 0 0
+    type-more z to q = filled-on s₀ s z 0 at to i 0 0 (i + 1) 0 0 is-whole p q
+
+    pub all-filled : 6 ≤ i → i ≤ 6 → record { outcome = 0; store = s } ≡ fill gateway s₀
+    unfolding fill
+    all-filled h h′ =
+        let e : i ≡ 6 = omega arith in
+        let r : at ≡ storeSize gateway = p .reached ∙ ap (λ (j : ℕ). offset gateway j 0 0) e ∙ store-ends in
+        simp (eq-eqb (length s₀) (storeSize gateway) is-whole, p .done, r, renewed-all s₀ is-whole)
+
+pub ruleset type·turn = (refused, store-filled-none, type-ready, type-more, all-filled)
+
+pub ruleset logical·turn = (filled-none, filled-on, type-begins)
 
 pub ruleset parameter·turn = (filled-none, row-there, has-room, one-more, logical-small, next-begins)
