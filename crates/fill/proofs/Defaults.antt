@@ -2,20 +2,20 @@
 -- Assumes nothing.
 use mathlib.Core.Path.{_≡_, refl, sym, ap, _∙_}
 use mathlib.Core.List.{List, [], _∷_, _++_, map}
-use Prim.Native.Nat.{ℕ, zero, suc, _+_, _-_, _*_, _/_, _%_, _≤_, _<_}
+use Prim.Native.Nat.{ℕ, zero, suc, _+_, _-_, _*_, _≤_, _<_}
 use native.Mathlib.Nat.{zero-add, not-suc-le-zero}
 use native.Mathlib.Omega.{arith}
 use borrow.Author.Tests.{lt-ltb, le-ltb, eq-eqb, ne-eqb, eqb-true}
 use lib.Dec.{eqb}
 use lib.ListN.{length, getD, drop, List·getD-map}
 use lib.Seq.{getD-drop}
-use Rattle.base.specs.Lists.{part, put, joined, upward}
+use Rattle.base.specs.Lists.{part, put}
 use Rattle.base.specs.Bytes.{bytes, ascii, padded}
 use Rattle.base.proofs.Below.{at-below, entry-small}
 use Rattle.base.proofs.Joined.{upward-part}
 use Rattle.points.specs.Row.{Row, Default, figure, words, softPoint, segment, fullFirst, noRow}
 use Rattle.points.specs.Columns.{allRows, rowAt, defaultCode, figureOf, rowDefault, rowFigure}
-use Rattle.store.specs.Fresh.{twoDigits, digits, startOf, rowStart}
+use Rattle.store.specs.Fresh.{twoDigits, startOf, rowStart}
 use Rattle.store.proofs.Fresh.{length-start}
 use Rattle.fill.specs.Steps.{wordsOf, rowWords}
 

@@ -1,8 +1,8 @@
 -- A fill goes on: by one parameter, from a logical to the next, from a type to the next, and to the end of the store.
 -- Assumes nothing.
 use mathlib.Core.Path.{_≡_, refl, sym, ap, _∙_}
-use mathlib.Core.List.{List, [], _∷_, _++_, append-nil}
-use Prim.Native.Nat.{ℕ, zero, suc, _+_, _-_, _*_, _≤_, _<_}
+use mathlib.Core.List.{List, [], append-nil}
+use Prim.Native.Nat.{ℕ, _+_, _-_, _≤_, _<_}
 use native.Mathlib.Nat.{zero-add, sub-zero}
 use native.Mathlib.Numerals.{add-one}
 use native.Mathlib.Omega.{arith}
@@ -14,15 +14,15 @@ use Rattle.base.proofs.Below.{entry-small}
 use Rattle.base.proofs.Parts.{length-part, length-put, put-join}
 use Rattle.base.proofs.Numbers.{part-add}
 use Rattle.points.specs.Types.{point, height, row, logicals, counts, gateway}
-use Rattle.points.specs.Place.{first, base, each, areas, within, lenAt, offset, storeSize}
+use Rattle.points.specs.Place.{first, base, areas, within, lenAt, offset, storeSize}
 use Rattle.points.specs.Columns.{rowAt}
 use Rattle.points.specs.Sums.{store-bytes}
 use Rattle.points.proofs.Laws.{fits, next-parameter}
 use Rattle.points.proofs.Rows.{row-below, row-at, row-length}
 use Rattle.store.specs.Store.{value}
 use Rattle.store.specs.Fresh.{rowStart, defaultOf, fresh}
-use Rattle.store.proofs.Fresh.{value-fresh, length-start, length-fresh, next-logical, next-type}
-use Rattle.rules.specs.System.{Left, fill}
+use Rattle.store.proofs.Fresh.{value-fresh, length-fresh, next-logical, next-type}
+use Rattle.rules.specs.System.{fill}
 use Rattle.fill.specs.Steps.{Room, renewed, Begins, Filled}
 use Rattle.fill.proofs.Writing.{put-none}
 

@@ -1,14 +1,10 @@
 // The fill: the default of each parameter, written into the store.
 ghost use mathlib.Core.Path.{_≡_};
-ghost use mathlib.Core.List.{[], _∷_, _++_};
-ghost use mathlib.Core.Bool.{cond};
 ghost use Prim.Native.Nat.{_+_, _<_, _≤_};
 ghost use lib.ListN.{length, getD};
-ghost use lib.Dec.{eqb};
 ghost use Rattle.base.specs.Lists.{put};
-ghost use Rattle.base.specs.Bytes.{bytes, ascii, padded};
+ghost use Rattle.base.specs.Bytes.{bytes, padded};
 ghost use Rattle.points.specs.Types.{gateway, logicals};
-ghost use Rattle.points.specs.Place.{offset};
 ghost use Rattle.points.specs.Columns.{rowAt};
 ghost use Rattle.points.specs.Row.{softPoint, segment, fullFirst};
 ghost use Rattle.store.specs.Fresh.{startOf, rowStart};
@@ -18,7 +14,7 @@ ghost use Rattle.fill.specs.Steps.{rowWords, Room, Begins, Filled};
 // Document 01: the store has 12,427 bytes.
 const SIZE: usize = 12427;
 
-// The i-th byte of a text with spaces behind it.
+// A text is "padded with spaces": its i-th byte, or a space.
 fn letter(text: &[u8], i: usize) -> u8
     ensures { λ r. ⌜ r ≡ getD (now (text .entry)) i 32 ⌝ }
 {
@@ -70,7 +66,7 @@ fn put_words(store: &mut [u8], at: usize, row: usize)
     put_text(store, at, points::length_at(row) as usize, b"");
 }
 
-// "Soft Pt x": x is the logical plus 1.
+// "Soft Pt x": x is the logical plus 1, in decimal with no leading zero.
 fn put_soft(store: &mut [u8], at: usize, n: usize, l: points::Logical)
     requires { ⌜ (at + n ≤ length (now store)) × (l .0 < 99) ⌝ }
     ensures { λ _. ⌜ now (store .exit) ≡ put (now (store .entry)) at (startOf (l .0) n softPoint) ⌝ }
@@ -87,8 +83,9 @@ fn put_soft(store: &mut [u8], at: usize, n: usize, l: points::Logical)
     put_text(store, at, n, &text);
 }
 
+// "Segment XX": 01 to 12. Manual 3.4.35: logical 0 is "General 00".
 fn put_segment(store: &mut [u8], at: usize, n: usize, l: points::Logical)
-    requires { ⌜ (at + n ≤ length (now store)) × (l .0 < 99) ⌝ }
+    requires { ⌜ at + n ≤ length (now store) ⌝ }
     ensures { λ _. ⌜ now (store .exit) ≡ put (now (store .entry)) at (startOf (l .0) n segment) ⌝ }
 {
     let x = l.0;
@@ -102,6 +99,7 @@ fn put_segment(store: &mut [u8], at: usize, n: usize, l: points::Logical)
     put_text(store, at, n, &text);
 }
 
+// "240 only on logical 0".
 fn put_size(store: &mut [u8], at: usize, n: usize, l: points::Logical)
     requires { ⌜ at + n ≤ length (now store) ⌝ }
     ensures { λ _. ⌜ now (store .exit) ≡ put (now (store .entry)) at (startOf (l .0) n fullFirst) ⌝ }
@@ -114,6 +112,7 @@ fn put_size(store: &mut [u8], at: usize, n: usize, l: points::Logical)
     put_figure(store, at, n, 0);
 }
 
+// The forms are numbered as in the column of points.
 fn put_default(store: &mut [u8], at: usize, row: usize, l: points::Logical)
     requires { ⌜ Room (now store) at row ⌝ }
     requires { ⌜ l .0 < 99 ⌝ }
@@ -130,7 +129,7 @@ fn put_default(store: &mut [u8], at: usize, row: usize, l: points::Logical)
     }
 }
 
-// One logical's parameters, from its place on. The answer is the place behind them.
+// "types ascending, logicals ascending, parameters ascending, unpadded": each part begins where the one before it ends, and answers its own end.
 fn fill_logical(store: &mut [u8], at: usize, i: usize, l: points::Logical) -> usize
     requires { ⌜ Begins (now store) at i (l .0) ⌝ }
     requires { ⌜ l .0 < logicals gateway i ⌝ }
@@ -163,7 +162,7 @@ fn fill_type(store: &mut [u8], at: usize, i: usize) -> usize
     next
 }
 
-// Document 01: outcome 2 where the store has another length, or the defaults.
+// "outcome 2 or the defaults".
 pub fn fill(store: &mut [u8]) -> u8
     ensures { λ r. ⌜ record { outcome = r; store = now (store .exit) } ≡ fill gateway (now (store .entry)) ⌝ }
 {

@@ -6,10 +6,6 @@ use Rattle.fill.specs.Steps.{Filled}
 use Rattle.fill.proofs.Steps.{logical·turn}
 use Rattle.fill.proofs.fill_type.Statement.{statement}
 use Rattle.fill.proofs.fill_type.Tie as tie
-use Rattle.fill.proofs.fill_type.Reads as reads
-use Rattle.fill.proofs.fill_type.Lts as lts
-use Rattle.fill.proofs.fill_logical.Reads as fill-logical-reads
-use Rattle.points.proofs.logicals_of.Reads as logicals-of-reads
 
 abbrev Inv-loop : tie.InvT-loop
 Inv-loop store₀ at i n next₀ l₀ store next l = (l ≤ n) × Filled store₀ store at next i l 0
@@ -17,35 +13,27 @@ Inv-loop store₀ at i n next₀ l₀ store next l = (l ≤ n) × Filled store�
 abbrev μ-loop : tie.MeasureT-loop
 μ-loop store₀ at i n next₀ l₀ store next l = n - l
 
--- src/lib.rt:156:9
 logicals-of-requires : tie.Need-logicals-of-requires Inv-loop μ-loop
-logicals-of-requires c κs = search (needs, logical·turn)
+logicals-of-requires c κs = search needs
 
--- src/lib.rt:159:5
 loop-holds : tie.Need-loop-holds Inv-loop μ-loop
 loop-holds c = search (needs, logical·turn)
 
--- src/lib.rt:160:9
 fill-logical-requires : tie.Need-fill-logical-requires Inv-loop μ-loop
-fill-logical-requires c κs = search (needs, logical·turn)
+fill-logical-requires c κs = search needs
 
--- src/lib.rt:161:9
 add-l : tie.Need-add-l Inv-loop μ-loop
-add-l c = search (needs, logical·turn)
+add-l c = search needs
 
--- src/lib.rt:159:5
 loop-less : tie.Need-loop-less Inv-loop μ-loop
-loop-less c = search (needs, logical·turn)
+loop-less c = search needs
 
--- src/lib.rt:159:5
 loop-again : tie.Need-loop-again Inv-loop μ-loop
 loop-again c = search (needs, logical·turn)
 
--- src/lib.rt:152:1
 same-length : tie.Need-same-length Inv-loop μ-loop
-same-length c = search (needs, logical·turn)
+same-length c = search needs
 
--- src/lib.rt:152:1
 returns : tie.Need-returns Inv-loop μ-loop
 returns c = search (needs, logical·turn)
 

@@ -1,15 +1,12 @@
 -- `fill::put_figure` meets its contract: what is left of the number, put behind what is written, is the whole.
 -- Assumes nothing.
-use mathlib.Core.Path.{_≡_, refl, sym, _∙_}
-use Prim.Native.Nat.{_-_, _≤_}
+use mathlib.Core.Path.{_≡_, refl, _∙_}
+use Prim.Native.Nat.{_-_}
 use native.Mathlib.Omega.{arith}
 use lib.ListN.{length, length-set}
-use borrow.Author.Needs.{needs}
 use Rattle.fill.proofs.Writing.{figureLeft, figure-none, figure-more, figure-all}
 use Rattle.fill.proofs.put_figure.Statement.{statement}
 use Rattle.fill.proofs.put_figure.Tie as tie
-use Rattle.fill.proofs.put_figure.Reads as reads
-use Rattle.fill.proofs.put_figure.Lts as lts
 
 abbrev Inv-loop : tie.InvT-loop
 Inv-loop store₀ at n x rest₀ i₀ store rest i = (length store ≡ length store₀) × (figureLeft store at rest n i ≡ figureLeft store₀ at x n 0)

@@ -1,16 +1,13 @@
 -- `fill::put_text` meets its contract: what is left of the text, put behind what is written, is the whole.
 -- Assumes nothing.
-use mathlib.Core.Path.{_≡_, refl, sym, _∙_}
-use Prim.Native.Nat.{_-_, _≤_}
+use mathlib.Core.Path.{_≡_, refl, _∙_}
+use Prim.Native.Nat.{_-_}
 use native.Mathlib.Omega.{arith}
 use lib.ListN.{length, length-set}
 use borrow.Author.Needs.{needs}
 use Rattle.fill.proofs.Writing.{textLeft, text-none, text-more, text-all}
 use Rattle.fill.proofs.put_text.Statement.{statement}
 use Rattle.fill.proofs.put_text.Tie as tie
-use Rattle.fill.proofs.put_text.Reads as reads
-use Rattle.fill.proofs.put_text.Lts as lts
-use Rattle.fill.proofs.letter.Reads as letter-reads
 
 abbrev Inv-loop : tie.InvT-loop
 Inv-loop store₀ at n text i₀ store i = (length store ≡ length store₀) × (textLeft store at text n i ≡ textLeft store₀ at text n 0)
