@@ -19,7 +19,7 @@ use Rattle.store.specs.Fresh.{twoDigits, startOf, rowStart}
 use Rattle.store.proofs.Fresh.{length-start}
 use Rattle.fill.specs.Steps.{wordsOf, rowWords}
 
--- ---- texts that name the logical
+-- ---- what depends on the logical
 
 -- a space behind a text is one of those that follow it
 padded-space : (w : List ℕ) (n : ℕ) → padded n (w ++ (32 ∷ [])) ≡ padded n w
@@ -46,7 +46,7 @@ module _ (z s : List ℕ) (at n l : ℕ) where
   pub size-other : (l ≡ 0 → ⊥) → z ≡ put s at (bytes n 0) → z ≡ put s at (startOf l n fullFirst)
   size-other h e = simp (ne-eqb l 0 h) e
 
-pub ruleset named·cases = (soft-one, soft-two, segment-first, segment-other, size-first, size-other)
+pub ruleset logical·cases = (soft-one, soft-two, segment-first, segment-other, size-first, size-other)
 
 -- ---- texts by row: the tags of the first ten rows, and none in the others
 

@@ -180,7 +180,7 @@ module _ (s₀ : List ℕ) (long : length s₀ ≡ 12427) where
         let r : at ≡ storeSize gateway = p .reached ∙ ap (λ (j : ℕ). offset gateway j 0 0) e ∙ store-ends in
         simp (eq-eqb (length s₀) (storeSize gateway) is-whole, p .done, r, renewed-all s₀ is-whole)
 
-pub ruleset type·turn = (refused, store-filled-none, type-ready, type-more, all-filled)
+pub ruleset type·turn = (refused, store-filled-none, type-more, all-filled)
 
 pub ruleset logical·turn = (filled-none, filled-on, type-begins)
 

@@ -15,13 +15,14 @@ pub put-none : (s : List ℕ) (a : ℕ) → put s a [] ≡ s
 unfolding put
 put-none s a = rw (append-nil, add-zero) (take-append-drop a s)
 
--- one byte stored, and the rest put behind it
-pub put-step : (s v : List ℕ) (a x : ℕ) → a < length s → put (set s a x) (a + 1) v ≡ put s a (x ∷ v)
+-- one byte stored behind i others, and the rest put behind it
+put-step : (s u v : List ℕ) (at i x : ℕ) → at + i < length s → u ≡ x ∷ v → put (set s (at + i) x) (at + (i + 1)) v ≡ put s (at + i) u
 unfolding put
-put-step s v a x h =
-    let e : a + 1 + length v ≡ a + suc (length v) = omega arith in
-    let k : a < a + suc (length v) = omega arith in
-    rw (e, add-one, take-suc-set, drop-set-lt) (ap (λ (l : List ℕ). l ++ drop (a + suc (length v)) s) (append-snoc (take a s) x v))
+put-step s u v at i x h e =
+    let p : at + (i + 1) + length v ≡ at + i + suc (length v) = omega arith in
+    let q : at + (i + 1) ≡ suc (at + i) = omega arith in
+    let k : at + i < at + i + suc (length v) = omega arith in
+    rw (e, p, q, take-suc-set, drop-set-lt) (ap (λ (l : List ℕ). l ++ drop (at + i + suc (length v)) s) (append-snoc (take (at + i) s) x v))
 
 -- a text's i-th byte, or a space
 pub in-text : (w : List ℕ) (i : ℕ) → i < length w → getD w i 0 ≡ getD w i 32
@@ -34,8 +35,7 @@ past-text w i h = sym (List·getD-eq-default w 32 h)
 
 pub ruleset letters = (in-text, past-text)
 
--- ---- a text with spaces behind it, and the bytes of a number: the first byte, and the rest
-
+-- a text with spaces behind it, from its i-th byte on
 padded-step : (w : List ℕ) (n i : ℕ) → padded (suc n) (drop i w) ≡ getD w i 32 ∷ padded n (drop (suc i) w)
 padded-step [] n zero = refl
 padded-step [] n (suc i) = refl
@@ -64,19 +64,15 @@ module _ (s : List ℕ) (at n : ℕ) where
         → textLeft (set s (at + i) x) at w n (i + 1) ≡ textLeft s at w n i
     unfolding textLeft
     text-more w x h k e =
-        let a : at + (i + 1) ≡ at + i + 1 = omega arith in
         let m : n - i ≡ suc (n - (i + 1)) = omega arith in
-        let t : padded (suc (n - (i + 1))) (drop i w) ≡ x ∷ padded (n - (i + 1)) (drop (i + 1) w) =
-        padded-step w (n - (i + 1)) i ∙ (λ j. sym e j ∷ padded (n - (i + 1)) (drop (sym (add-one i) j) w)) in
-        rw (a, m, t) (put-step s (padded (n - (i + 1)) (drop (i + 1) w)) (at + i) x h)
+        put-step s (padded (n - i) (drop i w)) (padded (n - (i + 1)) (drop (i + 1) w)) at i x h (rw (m, add-one i, e) (padded-step w (n - suc i) i))
 
     pub figure-more : (y : ℕ) → at + i < length s → i < n
         → figureLeft (set s (at + i) (y % 256)) at (y / 256) n (i + 1) ≡ figureLeft s at y n i
     unfolding figureLeft
     figure-more y h k =
-        let a : at + (i + 1) ≡ at + i + 1 = omega arith in
         let m : n - i ≡ suc (n - (i + 1)) = omega arith in
-        rw (a, m) (put-step s (bytes (n - (i + 1)) (y / 256)) (at + i) (y % 256) h)
+        put-step s (bytes (n - i) y) (bytes (n - (i + 1)) (y / 256)) at i (y % 256) h (rw m)
 
     pub text-all : (w : List ℕ) → n ≤ i → s ≡ textLeft s at w n i
     unfolding textLeft

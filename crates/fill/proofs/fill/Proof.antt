@@ -1,9 +1,10 @@
 -- `fill::fill` meets its contract: after i turns i types are filled.
 -- Assumes nothing.
 use Prim.Native.Nat.{_-_, _≤_}
+use native.Mathlib.Omega.{arith}
 use borrow.Author.Needs.{needs}
 use Rattle.fill.specs.Steps.{Filled}
-use Rattle.fill.proofs.Steps.{type·turn}
+use Rattle.fill.proofs.Steps.{type-ready, type·turn}
 use Rattle.fill.proofs.fill.Statement.{statement}
 use Rattle.fill.proofs.fill.Tie as tie
 
@@ -20,7 +21,9 @@ loop-holds : tie.Need-loop-holds Inv-loop μ-loop
 loop-holds c = search (needs, type·turn)
 
 fill-type-requires : tie.Need-fill-type-requires Inv-loop μ-loop
-fill-type-requires c κs = search (needs, type·turn)
+fill-type-requires c κs =
+    let turn = c .before .before in
+    type-ready _ (turn .before .if1 .left) _ _ _ (turn .loop .inv .1) (omega arith)
 
 add-i : tie.Need-add-i Inv-loop μ-loop
 add-i c = search needs

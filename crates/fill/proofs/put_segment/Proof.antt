@@ -1,7 +1,7 @@
 -- `fill::put_segment` meets its contract, on logical 0 and on the others.
 -- Assumes nothing.
 use borrow.Author.Needs.{needs}
-use Rattle.fill.proofs.Defaults.{named·cases}
+use Rattle.fill.proofs.Defaults.{logical·cases}
 use Rattle.fill.proofs.put_segment.Statement.{statement}
 use Rattle.fill.proofs.put_segment.Tie as tie
 
@@ -15,7 +15,7 @@ same-length : tie.Need-same-length
 same-length c = search needs
 
 returns : tie.Need-returns
-returns c = search (needs, named·cases)
+returns c = search (needs, logical·cases)
 
 add-text : tie.Need-add-text
 add-text c = search needs
@@ -39,7 +39,7 @@ same-length-2 : tie.Need-same-length-2
 same-length-2 c = search needs
 
 returns-2 : tie.Need-returns-2
-returns-2 c = search (needs, named·cases)
+returns-2 c = search (needs, logical·cases)
 
 pub put-segment-spec : {M : Type 1} → statement M
 put-segment-spec =

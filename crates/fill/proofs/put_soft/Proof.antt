@@ -1,7 +1,7 @@
 -- `fill::put_soft` meets its contract, with one digit and with two.
 -- Assumes nothing.
 use borrow.Author.Needs.{needs}
-use Rattle.fill.proofs.Defaults.{named·cases}
+use Rattle.fill.proofs.Defaults.{logical·cases}
 use Rattle.fill.proofs.put_soft.Statement.{statement}
 use Rattle.fill.proofs.put_soft.Tie as tie
 
@@ -24,7 +24,7 @@ same-length : tie.Need-same-length
 same-length c = search needs
 
 returns : tie.Need-returns
-returns c = search (needs, named·cases)
+returns c = search (needs, logical·cases)
 
 add-text-2 : tie.Need-add-text-2
 add-text-2 c = search needs
@@ -48,7 +48,7 @@ same-length-2 : tie.Need-same-length-2
 same-length-2 c = search needs
 
 returns-2 : tie.Need-returns-2
-returns-2 c = search (needs, named·cases)
+returns-2 c = search (needs, logical·cases)
 
 pub put-soft-spec : {M : Type 1} → statement M
 put-soft-spec =
