@@ -6,7 +6,7 @@ ghost use Prim.Native.Nat.{_+_, _<_, _≤_};
 ghost use lib.ListN.{getD};
 ghost use Rattle.points.specs.Types.{indexOf, point, height, logicals, gateway};
 ghost use Rattle.points.specs.Place.{first, base, each, placeOf, Here, spotOf};
-ghost use Rattle.points.specs.Columns.{rowAt, rowKind, rowAccess, rowRange, rowLeast, rowMost, readLevels, writeLevels, beginnings};
+ghost use Rattle.points.specs.Columns.{rowAt, rowKind, rowAccess, rowRange, rowLeast, rowMost, rowDefault, rowFigure, readLevels, writeLevels, beginnings};
 
 // A point type, a logical, a parameter and a count are four kinds of number.
 pub struct PointType(pub u8);
@@ -75,6 +75,20 @@ pub fn most_at(row: usize) -> u32
     columns::mosts::MOSTS[row]
 }
 
+pub fn default_at(row: usize) -> u8
+    requires { ⌜ row < 175 ⌝ }
+    ensures { λ r. ⌜ r ≡ rowDefault (rowAt row) ⌝ }
+{
+    columns::defaults::DEFAULTS[row]
+}
+
+pub fn figure_at(row: usize) -> u32
+    requires { ⌜ row < 175 ⌝ }
+    ensures { λ r. ⌜ r ≡ rowFigure (rowAt row) ⌝ }
+{
+    columns::figures::FIGURES[row]
+}
+
 pub fn read_level_at(row: usize) -> u8
     requires { ⌜ row < 175 ⌝ }
     ensures { λ r. ⌜ r ≡ getD readLevels row 0 ⌝ }
@@ -111,7 +125,7 @@ pub fn height_of(i: usize) -> u8
     columns::HEIGHTS[i]
 }
 
-fn first_of(i: usize) -> u8
+pub fn first_of(i: usize) -> u8
     requires { ⌜ i < 6 ⌝ }
     ensures { λ r. ⌜ r ≡ first i ⌝ }
 {
