@@ -139,7 +139,7 @@ unfolding point points
 segment-height = refl
 
 -- the rows of the types before type 124
-earlier-row : (i k : ℕ) → i < segments → k < height (point i) → first i + k < first segments
+pub earlier-row : (i k : ℕ) → i < segments → k < height (point i) → first i + k < first segments
 unfolding first point
 earlier-row i k h hk = omega (arith, before (map height points) i segments h, List·getD-map height points i noPoint)
 
