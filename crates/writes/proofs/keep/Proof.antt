@@ -1,76 +1,96 @@
+-- `writes::keep` meets its contract: the store holds the values so far, and what is left of the check equals the whole.
+-- Assumes nothing.
+use borrow.Author.Needs.{needs}
+use Prim.Native.Nat.{_-_, _≤_, _<_}
+use native.Mathlib.Omega.{arith}
+use mathlib.Core.Path.{_≡_, refl, _∙_}
+use lib.ListN.{length}
+use Rattle.lists.specs.Walks.{callerOf, spokenOf}
+use Rattle.writes.proofs.Left.{findable}
+use Rattle.writes.proofs.Kept.{Keeping, keeps-first, keeps-all, no-fault, in-data, in-store, keeps-more}
 use Rattle.writes.proofs.keep.Statement.{statement}
 use Rattle.writes.proofs.keep.Tie as tie
-use Rattle.writes.proofs.keep.Reads as reads
-use Rattle.writes.proofs.keep.Lts as lts
-use Rattle.base.proofs.copy.Reads as copy-reads
-use Rattle.lists.proofs.next_entry.Reads as next-entry-reads
-use Rattle.lists.proofs.spoken.Reads as spoken-reads
 
 abbrev Inv-loop : tie.InvT-loop
-Inv-loop src count from who d locations store₀ step at₀ e₀ store at e = ?
+Inv-loop src count from who d locations store₀ step at₀ e₀ store at e =
+    (step ≡ spokenOf src) × (e ≤ count) × (at ≤ length d) × (length store ≡ length store₀)
+    × Keeping (callerOf who) store₀ src count from d locations store e at
 
 abbrev μ-loop : tie.MeasureT-loop
-μ-loop src count from who d locations store₀ step at₀ e₀ store at e = ?
+μ-loop src count from who d locations store₀ step at₀ e₀ store at e = count - e
 
--- src/lib.rt:117:9
 spoken-requires : tie.Need-spoken-requires Inv-loop μ-loop
-spoken-requires c κs = ?
+spoken-requires c κs = search needs
 
--- src/lib.rt:120:5
 loop-holds : tie.Need-loop-holds Inv-loop μ-loop
-loop-holds c = ?
+loop-holds c =
+    let p = c .before .before .before .before .pre in
+    (c .spoken .ensures, search needs, p .writable .begun, refl, keeps-first _ _ _ _ _ _ _ p)
 
--- src/lib.rt:121:13
 next-entry-requires : tie.Need-next-entry-requires Inv-loop μ-loop
-next-entry-requires c κs = ?
+next-entry-requires c κs = findable _ _ _ _ _ _ _ (c .before .before .before .before .before .before .pre .writable) _ _ (omega arith) (c .before .loop .inv .2)
 
--- src/lib.rt:124:17
 enum-told : tie.Need-enum-told Inv-loop μ-loop
-enum-told c = ?
+enum-told c = search needs
 
--- src/lib.rt:124:17
 same-length : tie.Need-same-length Inv-loop μ-loop
-same-length c = ?
+same-length c = c .before .before .before .before .loop .inv .3
 
--- src/lib.rt:124:17
 returns : tie.Need-returns Inv-loop μ-loop
-returns c = ?
+returns c =
+    let l = c .before .before .before .before .loop in
+    absurd (no-fault _ _ _ _ _ _ _ (c .before .before .before .before .before .before .before .before .before .pre) _ _ _ (l .inv .4) (omega arith) (l .inv .2) _ (c .before .before .next-entry .ensures) _ _ (c .enum-told .given .1))
 
--- src/lib.rt:126:25
 enum-known-next : tie.Need-enum-known-next Inv-loop μ-loop
-enum-known-next c = ?
+enum-known-next c = search needs
 
--- src/lib.rt:129:29
 add-start : tie.Need-add-start Inv-loop μ-loop
-add-start c = ?
+add-start c =
+    let l = c .before .before .before .before .before .loop in
+    let p = c .before .before .before .before .before .before .before .before .before .before .pre in
+    let more : l .e < c .before .before .before .before .before .before .before .before .before .before .args .count = omega arith in
+    let found = c .before .before .before .next-entry .ensures in
+    let given = c .before .next .given .1 in
+    omega (arith, in-data _ _ _ _ _ _ _ p _ _ _ (l .inv .4) more (l .inv .2) _ found _ given _ (l .inv .0), p .writable .short)
 
--- src/lib.rt:130:17
 copy-requires : tie.Need-copy-requires Inv-loop μ-loop
-copy-requires c κs = ?
+copy-requires c κs =
+    let l = c .before .before .before .before .before .before .loop in
+    let p = c .before .before .before .before .before .before .before .before .before .before .before .pre in
+    let more : l .e < c .before .before .before .before .before .before .before .before .before .before .before .args .count = omega arith in
+    let found = c .before .before .before .before .next-entry .ensures in
+    let given = c .before .before .next .given .1 in
+    (omega (arith, in-store _ _ _ _ _ _ _ p _ _ _ (l .inv .4) more (l .inv .2) _ found _ given _ (l .inv .0), l .inv .3), in-data _ _ _ _ _ _ _ p _ _ _ (l .inv .4) more (l .inv .2) _ found _ given _ (l .inv .0))
 
--- src/lib.rt:131:22
 add-at : tie.Need-add-at Inv-loop μ-loop
-add-at c = ?
+add-at c =
+    let l = c .before .before .before .before .before .before .before .before .before .loop in
+    let p = c .before .before .before .before .before .before .before .before .before .before .before .before .before .before .pre in
+    let more : l .e < c .before .before .before .before .before .before .before .before .before .before .before .before .before .before .args .count = omega arith in
+    let found = c .before .before .before .before .before .before .before .next-entry .ensures in
+    let given = c .before .before .before .before .before .next .given .1 in
+    omega (arith, in-data _ _ _ _ _ _ _ p _ _ _ (l .inv .4) more (l .inv .2) _ found _ given _ (l .inv .0), p .writable .short)
 
--- src/lib.rt:132:17
 add-e : tie.Need-add-e Inv-loop μ-loop
-add-e c = ?
+add-e c = omega arith
 
--- src/lib.rt:120:5
 loop-less : tie.Need-loop-less Inv-loop μ-loop
-loop-less c = ?
+loop-less c = omega arith
 
--- src/lib.rt:120:5
 loop-again : tie.Need-loop-again Inv-loop μ-loop
-loop-again c = ?
+loop-again c =
+    let l = c .before .before .before .before .before .before .before .before .before .loop in
+    let p = c .before .before .before .before .before .before .before .before .before .before .before .before .before .before .pre in
+    let more : l .e < c .before .before .before .before .before .before .before .before .before .before .before .before .before .before .args .count = omega arith in
+    let found = c .before .before .before .before .before .before .before .next-entry .ensures in
+    let given = c .before .before .before .before .before .next .given .1 in
+    (l .inv .0, omega arith, in-data _ _ _ _ _ _ _ p _ _ _ (l .inv .4) more (l .inv .2) _ found _ given _ (l .inv .0), c .before .before .copy .kept .0 ∙ l .inv .3, keeps-more _ _ _ _ _ _ _ p _ _ _ (l .inv .4) more (l .inv .2) _ found _ given _ (l .inv .0) _ (c .before .before .copy .ensures))
 
--- src/lib.rt:113:1
 same-length-2 : tie.Need-same-length-2 Inv-loop μ-loop
-same-length-2 c = ?
+same-length-2 c = c .before .loop .inv .3
 
--- src/lib.rt:113:1
 returns-2 : tie.Need-returns-2 Inv-loop μ-loop
-returns-2 c = ?
+returns-2 c = keeps-all _ _ _ _ _ _ _ (c .before .before .before .before .before .before .pre) _ _ _ (c .before .loop .inv .4) (c .loop-test .left)
 
 pub keep-spec : {M : Type 1} → statement M
 keep-spec =
