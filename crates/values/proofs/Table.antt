@@ -7,10 +7,10 @@ use Prim.Native.Nat.{ℕ, _+_, _-_, _≤_, _<_}
 use native.Mathlib.Omega.{arith}
 use lib.Dec.{eqb, leb, ltb}
 use lib.ListN.{length, getD}
-use borrow.Author.Tests.{eqb-true, ltb-true, le-leb, ne-eqb}
+use borrow.Author.Tests.{eqb-true, le-leb}
 use Rattle.base.specs.Lists.{both, either, only}
-use Rattle.base.proofs.Below.{below, at-below, both-left, both-right}
-use Rattle.points.specs.Row.{Row, Kind, text, unsigned, signed, single, double, tlp, Range, any, between, status, rate, size, number}
+use Rattle.base.proofs.Below.{at-below, both-left, both-right}
+use Rattle.points.specs.Row.{Kind, text, unsigned, signed, single, double, tlp, Range, any, between, status, rate, size, number}
 use Rattle.points.specs.Types.{segments, point, height}
 use Rattle.points.specs.Place.{lenAt}
 use Rattle.points.specs.Columns.{rowAt, rowKind, kindCode, rangeCode}
