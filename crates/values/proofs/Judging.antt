@@ -81,7 +81,7 @@ passes-both true true = refl
 passes-both true false = refl
 passes-both false y = refl
 
-pub judged-both : (r : Row) (l : ℕ) (v : List ℕ) → both (ofKind gateway (r .kind) v) (inRange gateway (r .range) l v) ≡ passes (judged gateway r l v)
+judged-both : (r : Row) (l : ℕ) (v : List ℕ) → both (ofKind gateway (r .kind) v) (inRange gateway (r .range) l v) ≡ passes (judged gateway r l v)
 unfolding judged
 judged-both r l v = passes-both (ofKind gateway (r .kind) v) (inRange gateway (r .range) l v)
 
@@ -121,7 +121,8 @@ module _ (l : ℕ) (v : List ℕ) where
   as-tlp number t = narrower (nothing v) (names gateway v) _
 
 -- the kind that is left
-the-last : (k : Kind) → (kindCode k ≡ 0 → ⊥) → (kindCode k ≡ 1 → ⊥) → (kindCode k ≡ 2 → ⊥) → (kindCode k ≡ 3 → ⊥) → (kindCode k ≡ 4 → ⊥) → kindCode k ≡ 5
+the-last : (k : Kind) → (kindCode k ≡ 0 → ⊥) → (kindCode k ≡ 1 → ⊥) → (kindCode k ≡ 2 → ⊥) → (kindCode k ≡ 3 → ⊥)
+    → (kindCode k ≡ 4 → ⊥) → kindCode k ≡ 5
 the-last text o a b c d = absurd (o refl)
 the-last unsigned o a b c d = absurd (a refl)
 the-last signed o a b c d = absurd (b refl)

@@ -36,7 +36,8 @@ use Rattle.values.proofs.Table.{rooms, kind-is, signed-long, single-lon
 
 -- ---- the bits by the kind's code
 
-no-number : (k : Kind) (v : List ℕ) → (kindCode k ≡ 1 → ⊥) → (kindCode k ≡ 2 → ⊥) → (kindCode k ≡ 3 → ⊥) → (kindCode k ≡ 4 → ⊥) → No 27 ≡ bitsOf k v
+no-number : (k : Kind) (v : List ℕ) → (kindCode k ≡ 1 → ⊥) → (kindCode k ≡ 2 → ⊥) → (kindCode k ≡ 3 → ⊥)
+    → (kindCode k ≡ 4 → ⊥) → No 27 ≡ bitsOf k v
 unfolding bitsOf
 no-number text v a b c d = refl
 no-number unsigned v a b c d = absurd (a refl)
