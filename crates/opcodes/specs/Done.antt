@@ -1,6 +1,7 @@
 -- What an opcode that was carried out leaves, buffer by buffer.
 -- Assumes nothing.
 use Prim.Native.Nat.{ℕ}
+use mathlib.Core.Path.{_≡_}
 use mathlib.Core.Bool.{Bool, cond}
 use mathlib.Core.List.{List}
 use Rattle.base.specs.Check.{Check, fault, pass}
@@ -29,3 +30,12 @@ storeBy s (pass d) = stored gateway s (d .puts)
 unfoldable pub clockBy : List ℕ → Check Deeds → List ℕ
 clockBy c (fault n p) = c
 clockBy c (pass d) = d .clock
+
+-- what a read leaves in the reply space, and a write in the store, with the answer done
+pub record Told (done : Done) (aloud : Bool) (s r r′ : List ℕ) (p : Check Deeds) : Type 0 where
+  pub answer : done ≡ doneOf p
+  pub space : r′ ≡ spaceBy aloud s r p
+
+pub record Kept (done : Done) (s s′ : List ℕ) (p : Check Deeds) : Type 0 where
+  pub answer : done ≡ doneOf p
+  pub store : s′ ≡ storeBy s p

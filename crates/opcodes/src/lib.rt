@@ -1,4 +1,6 @@
 // The eight opcodes: each checks its request's data and then does what it asks.
+pub mod named;
+mod walks;
 
 // What an opcode comes to: how many data bytes of a reply it told, or the fault.
 pub enum Done {
