@@ -1,4 +1,5 @@
 // The eight opcodes: each checks its request's data and then does what it asks.
+pub mod blocks;
 pub mod named;
 mod walks;
 

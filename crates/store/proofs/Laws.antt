@@ -3,7 +3,7 @@
 use mathlib.Core.Path.{_≡_, refl, sym, ap, _∙_}
 use mathlib.Core.Logic.{_⊎_, inl, inr}
 use mathlib.Core.List.{List, [], _∷_, _++_}
-use Prim.Native.Nat.{ℕ, zero, suc, _+_, _≤_, _<_}
+use Prim.Native.Nat.{ℕ, zero, suc, _+_, _-_, _≤_, _<_}
 use native.Mathlib.Decide.{ℕ-discrete}
 use native.Mathlib.Nat.{suc-add, add-suc}
 use native.Mathlib.Omega.{arith}
@@ -66,6 +66,18 @@ values-length b s whole i l k zero hl h = refl
 values-length b s whole i l k (suc n) hl h =
     length-append (value b s i l k) (values b s i l (suc k) n)
     ∙ omega (arith, value-length b s whole i l k hl, values-length b s whole i l (suc k) n hl (omega arith), span-more i k n (omega arith))
+
+-- where the parameter behind a run begins, and so where its last one ends
+pub span-reach : (b : Build) (i l k n : ℕ) → k + n ≤ height (point i) → offset b i l k + spanOf i k n ≡ offset b i l (k + n)
+span-reach b i l k zero h = let z : k + 0 ≡ k = omega arith in rw z (omega arith)
+span-reach b i l k (suc n) h =
+    let z : k + suc n ≡ suc k + n = omega arith in
+    rw z (omega (arith, span-more i k n (omega arith), next-parameter b i l k, span-reach b i l (suc k) n (omega arith)))
+
+pub span-end : (b : Build) (i l k n : ℕ) → 1 ≤ n → k + n ≤ height (point i) → offset b i l (k + n - 1) + lenAt i (k + n - 1) ≡ offset b i l k + spanOf i k n
+span-end b i l k n h w =
+    let z : suc (k + n - 1) ≡ k + n = omega arith in
+    sym (next-parameter b i l (k + n - 1)) ∙ ap (offset b i l) z ∙ sym (span-reach b i l k n w)
 
 -- ---- values stored
 
