@@ -7,8 +7,8 @@ ghost use Rattle.clock.specs.Moments.{clockOf, weekdayAt};
 ghost use Rattle.rules.specs.Opcodes.{plan8};
 ghost use Rattle.opcodes.specs.Done.{doneOf, clockBy};
 ghost use Rattle.opcodes.specs.Clocks.{strayAt, Tellable, Told};
-use clock::Clock;
 use crate::Done;
+use clock::Clock;
 
 // The clock's seven bytes and the weekday, from place 6 of the reply on.
 fn tell_moment(clock: &[u8], reply: &mut [u8])
