@@ -2,6 +2,7 @@
 -- Assumes nothing.
 use mathlib.Core.Path.{_≡_, refl, sym, ap, _∙_}
 use mathlib.Core.Bool.{Bool, true, false, _&&_, cond, false≢true}
+use mathlib.Core.List.{List}
 use Prim.Native.Nat.{ℕ, _+_, _-_, _*_, _/_, _%_, _≤_, _<_}
 use native.Mathlib.Numerals.{add-one}
 use native.Mathlib.Omega.{arith}
@@ -10,7 +11,7 @@ use lib.ListN.{getD, length, set, length-set, List·getD-eq-default}
 use lib.Seq.{getD-set-other}
 use borrow.Author.Tests.{lt-ltb, le-ltb, le-leb, lt-leb, eq-eqb, ne-eqb, leb-true, eqb-true}
 use Rattle.clock.specs.Calendar.{leap, lengths, monthDays, validDate, yearsDays, monthsDays, weekdayOf}
-use Rattle.clock.specs.Moments.{validClock, midnight, dayLater, later, tick, weekdayAt}
+use Rattle.clock.specs.Moments.{validClock, midnight, dayLater, later, tick, weekdayAt, clockOf}
 use Rattle.base.proofs.Below.{at-below, entry-small}
 use Rattle.clock.specs.declared.Clock.{Clock}
 use Rattle.clock.specs.declared.Ticked.{Ticked}
@@ -171,6 +172,12 @@ unfolding weekdayAt weekdayOf
 weekday-in x b v p t e =
     let y = valid-years x (sym p ∙ t) in
     simp (← p, t, e, years-days (x .year - 2000) (omega arith))
+
+-- the seven bytes: y is the year that the code made of the last two
+pub from-bytes : (k : List ℕ) (y : ℕ) → y ≡ getD k 5 0 + 256 * getD k 6 0
+    → record { second = getD k 0 0; minute = getD k 1 0; hour = getD k 2 0; day = getD k 3 0; month = getD k 4 0; year = y } ≡ clockOf k
+unfolding clockOf
+from-bytes k y e = simp e
 
 -- for `search`, at each return
 pub ruleset leap·cases = (leap-400, leap-100, leap-4)

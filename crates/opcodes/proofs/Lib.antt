@@ -2,3 +2,4 @@ pub mod Carried
 pub mod Plans
 pub mod Spanned
 pub mod Stretched
+pub mod Moments

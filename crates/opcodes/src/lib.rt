@@ -2,6 +2,7 @@
 pub mod blocks;
 pub mod named;
 mod walks;
+pub mod clocks;
 
 // What an opcode comes to: how many data bytes of a reply it told, or the fault.
 pub enum Done {
