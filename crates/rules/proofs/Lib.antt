@@ -5,3 +5,5 @@ pub mod Found
 pub mod Walks
 pub mod Lawful
 pub mod Alike
+pub mod Answered
+pub mod Same
