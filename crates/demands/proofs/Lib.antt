@@ -1,0 +1,3 @@
+pub mod Says
+pub mod Tabled
+pub mod Planned
