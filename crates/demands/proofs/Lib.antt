@@ -1,3 +1,6 @@
 pub mod Says
 pub mod Tabled
 pub mod Planned
+pub mod Unframed
+pub mod Exactly
+pub mod Listed

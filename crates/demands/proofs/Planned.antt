@@ -16,7 +16,7 @@ use Rattle.rules.specs.Entries.{request, block, named, located}
 use Rattle.rules.specs.Lists.{ends, fitting}
 use Rattle.rules.specs.Opcodes.{plan7, plan8, lastOf, spans, plan167, plan166, counted, plan180, plan181, locates, plan10, plan11, Opcode, read7, set8, read10, write11, write166, read167, read180, write181, unserved, plan}
 use Rattle.demands.specs.Table.{Refusal, unless, firstOf}
-use Rattle.demands.specs.Tables.{typeRow, logicalRow, parameterRow, shortRow, countRow, clockTable, locateTable, planTable}
+use Rattle.demands.specs.Tables.{typeRow, logicalRow, parameterRow, shortRow, countRow, clockTable, countTable, locateTable, planTable}
 use Rattle.demands.proofs.Says.{Says, blank, say, ask, last, follow, end}
 use Rattle.demands.proofs.Tabled.{there-says, reading-says, writing-says}
 
@@ -49,7 +49,7 @@ spans-says b d =
     again _ _ _ _ _ _ _ (has-first b (indexOf (getD d 0 0)))
     (ask λ _. follow (there-says b (getD d 0 0) (getD d 1 0) 0 0 1 3) λ _. ask λ _. there-says b (getD d 0 0) (getD d 1 0) (lastOf d) 0 1 3)
 
-counted-says : (d : List ℕ) → Says (counted d) (unless (leb 1 (length d)) 21 0 ∷ countRow (getD d 0 0) 0 ∷ [])
+counted-says : (d : List ℕ) → Says (counted d) (countTable d)
 unfolding counted
 counted-says d = ask λ _. last
 

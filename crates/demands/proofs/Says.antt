@@ -51,10 +51,6 @@ pub first-has : (P : ℕ → Type 0) (n p : ℕ) (rs : List Refusal) → All (λ
 first-has P n p (r ∷ rs) a (inl e) = rw (e .1) at (a .0)
 first-has P n p (r ∷ rs) a (inr e) = first-has P n p rs (a .1) (e .1)
 
-pub all-join : {A : Type 0} (P : A → Type 0) (xs ys : List A) → All P xs → All P ys → All P (xs ++ ys)
-all-join P [] ys a c = c
-all-join P (x ∷ xs) ys a c = (a .0, all-join P xs ys (a .1) c)
-
 -- ---- a check says a table: they come out alike
 
 -- a check without what it passes
@@ -131,3 +127,8 @@ unfolding firstOf
 merge-right {x = true} {y = true} s = record { says = s .says }
 merge-right {x = true} {y = false} s = record { says = s .says }
 merge-right {x = false} s = record { says = s .says }
+
+pub sure-next : {A : Type 0} {c : Check A} {r : Refusal} {x : Bool} {n p : ℕ} {rs : List Refusal} → x ≡ true → Says c (r ∷ unless x n p ∷ rs) → Says c (r ∷ rs)
+unfolding firstOf
+sure-next {x = true} e s = record { says = s .says }
+sure-next {x = false} e s = let z : _≡_ {A = ℕ} 0 1 = cc in absurd (omega arith)

@@ -1,2 +1,3 @@
 pub mod Table
 pub mod Tables
+pub mod Outcomes

@@ -30,3 +30,7 @@ First (r ∷ rs) n p = ((r .holds ≡ false) × (r .number ≡ n) × (r .place �
 abbrev pub NoneApplies : List Refusal → Type 0
 NoneApplies [] = Unit {0}
 NoneApplies (r ∷ rs) = (r .holds ≡ true) × NoneApplies rs
+
+-- what a table gives: 0 where no row applies, else the number of the first that does
+abbrev pub Gives : List Refusal → ℕ → Type 0
+Gives rs n = (NoneApplies rs × (n ≡ 0)) ⊎ ((p : ℕ) × First rs n p)

@@ -131,6 +131,10 @@ spanTable b who needed d =
     shortRow 4 d ∷ typeRow b (getD d 0 0) 0 ∷ logicalRow b (getD d 0 0) (getD d 1 0) 1 ∷ countRow (getD d 2 0) 2
     ∷ parameterRow (getD d 0 0) (lastOf d) 3 ∷ levelRow who needed 0 ∷ []
 
+-- 180 and 181: short; count zero
+abbrev pub countTable : List ℕ → List Refusal
+countTable d = unless (leb 1 (length d)) 21 0 ∷ countRow (getD d 0 0) 0 ∷ []
+
 -- 10 and 11: short; table; start; count zero; last location
 abbrev pub locateTable : Build → List ℕ → List Refusal
 locateTable b d =
@@ -167,10 +171,10 @@ planTable b write166 L h d =
     spanTable b (request L) (point i .writes) d
     ++ writeTable b (request L) (h .store) (block i (getD d 1 0) (getD d 3 0)) (getD d 2 0) (drop 4 d) 4 []
 planTable b read180 L h d =
-    (unless (leb 1 (length d)) 21 0 ∷ countRow (getD d 0 0) 0 ∷ [])
+    countTable d
     ++ readTable b (request L) named (getD d 0 0) (drop 1 d) 1 (plain (take 1 d) ∷ [])
 planTable b write181 L h d =
-    (unless (leb 1 (length d)) 21 0 ∷ countRow (getD d 0 0) 0 ∷ [])
+    countTable d
     ++ writeTable b (request L) (h .store) named (getD d 0 0) (drop 1 d) 1 []
 planTable b read10 L h d =
     locateTable b d

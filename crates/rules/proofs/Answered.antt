@@ -26,6 +26,7 @@ use Rattle.rules.proofs.Lawful.{Lawful, lawful, setting-puts}
 
 -- what is known of a request once it is received
 pub record Received (b : Build) (a : Asked) (h : Held) (r : ℕ) : Type 0 where
+  pub passed : received b a h r ≡ pass tt
   pub room : longest ≤ r
   pub whole : length (h .store) ≡ storeSize b
   pub level : a .level ≤ 3
@@ -33,12 +34,12 @@ pub record Received (b : Build) (a : Asked) (h : Held) (r : ℕ) : Type 0 where
   pub long : length (a .frame) ≤ longest
   pub exact : length (a .frame) ≡ dataLength (a .frame) + 8
 
-pub received-holds : (b : Build) (a : Asked) (h : Held) (r : ℕ) → Holds (λ _. Received b a h r) (received b a h r)
+received-holds : (b : Build) (a : Asked) (h : Held) (r : ℕ) → Holds (λ _. received b a h r ≡ pass tt → Received b a h r) (received b a h r)
 unfolding received
 received-holds b a h r =
     step _ λ room. step _ λ whole. step _ λ _. step _ λ level. step _ λ clock. step _ λ _. step _ λ long. step _ λ exact.
     step _ λ _. step _ λ _. step _ λ _. step _ λ _.
-    passing (record { room = leb-true _ _ room; whole = eqb-true _ _ whole; level = leb-true _ _ level; clock = clock; long = leb-true _ _ long; exact = eqb-true _ _ exact })
+    passing (λ e. record { passed = e; room = leb-true _ _ room; whole = eqb-true _ _ whole; level = leb-true _ _ level; clock = clock; long = leb-true _ _ long; exact = eqb-true _ _ exact })
 
 pub data Answered (b : Build) (a : Asked) (h : Held) (r : List ℕ) : Answer → Type 0 where
   -- not a byte is written
@@ -57,10 +58,11 @@ module _ (b : Build) (a : Asked) (h : Held) (r : List ℕ) where
   carried-is k (fault n p) e l = refused k e
   carried-is k (pass d) e (passing l) = acted k e l
 
-  admitted-is : (c : Check Unit) → received b a h (length r) ≡ c → Holds (λ _. Received b a h (length r)) c → Answered b a h r (admitted b a h r c)
+  admitted-is : (c : Check Unit) → received b a h (length r) ≡ c → Holds (λ _. received b a h (length r) ≡ pass tt → Received b a h (length r)) c
+      → Answered b a h r (admitted b a h r c)
   unfolding admitted over
   admitted-is (fault n p) e k = unheard e
-  admitted-is (pass x) e (passing k) = carried-is k (planned b a h) refl (lawful b (a .level) h (dataOf (a .frame)) (opcodeOf (opcode (a .frame))))
+  admitted-is (pass x) e (passing k) = carried-is (k e) (planned b a h) refl (lawful b (a .level) h (dataOf (a .frame)) (opcodeOf (opcode (a .frame))))
 
   pub answered : Answered b a h r (answer b a h r)
   unfolding answer
