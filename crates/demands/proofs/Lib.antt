@@ -4,3 +4,5 @@ pub mod Planned
 pub mod Unframed
 pub mod Exactly
 pub mod Listed
+pub mod Refused
+pub mod Replies

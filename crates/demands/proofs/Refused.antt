@@ -1,0 +1,107 @@
+-- Demand 1, refusals: they leave store and clock, and the reply space holds one error frame or is untouched.
+-- Assumes nothing.
+use Prim.Native.Nat.{ℕ, _+_, _≤_}
+use native.Mathlib.Omega.{arith}
+use mathlib.Core.Path.{_≡_, refl}
+use mathlib.Core.Bool.{Bool, true, false, cond}
+use mathlib.Core.Logic.{_⊎_, inl, inr}
+use mathlib.Core.List.{List, [], _∷_}
+use borrow.Author.Tests.{eq-eqb}
+use lib.ListN.{length}
+use lib.Dec.{eqb}
+use Rattle.base.specs.Lists.{over}
+use Rattle.clock.specs.Moments.{validClock, later, clockOf, clockBytes}
+use Rattle.points.specs.Types.{Build}
+use Rattle.points.specs.Place.{storeSize}
+use Rattle.store.specs.Fresh.{fresh}
+use Rattle.frame.specs.Address.{source}
+use Rattle.frame.specs.Frame.{sealed, frameOf}
+use Rattle.rules.specs.Asked.{Asked, Held}
+use Rattle.rules.specs.Answer.{Answer, toAll, errorOpcode, errorData, sent, answer}
+use Rattle.rules.specs.System.{Left, systemWrite, fill, Passed, ticking}
+use Rattle.rules.proofs.Answered.{Answered, unheard, refused, acted, answered, Written, unset, set-to, written}
+use Rattle.demands.specs.Table.{First}
+use Rattle.demands.specs.Tables.{requestTable}
+use Rattle.demands.specs.Outcomes.{Silent, Told, Untouched, ErrorFrame}
+use Rattle.demands.proofs.Listed.{silent-number, told-number}
+use Rattle.demands.proofs.Exactly.{refused-row}
+
+module _ (b : Build) (a : Asked) (h : Held) (r : List ℕ) where
+  -- a refusal changes neither store nor clock
+  pub refused-keeps : (answer b a h r .outcome ≡ 0 → ⊥) → (answer b a h r .store ≡ h .store) × (answer b a h r .clock ≡ h .clock)
+  refused-keeps = go (answered b a h r)
+    where
+      go : {x : Answer} → Answered b a h r x → (x .outcome ≡ 0 → ⊥) → (x .store ≡ h .store) × (x .clock ≡ h .clock)
+      go (unheard e) n = (refl, refl)
+      go (refused k e) n = (refl, refl)
+      go (acted k e l) n = absurd (n refl)
+
+  -- outcomes 1 to 8 write no byte and have length 0
+  pub silent : Silent (answer b a h r .outcome) → Untouched r (answer b a h r)
+  silent = go (answered b a h r)
+    where
+      go : {x : Answer} → Answered b a h r x → Silent (x .outcome) → Untouched r x
+      go (unheard e) n = (refl, refl)
+      go (refused k e) n = let t = told-number b a h _ _ e in absurd (omega arith)
+      go (acted k e l) n = absurd (omega arith)
+
+  -- a broadcast is never answered
+  pub broadcast : toAll a ≡ true → Untouched r (answer b a h r)
+  unfolding sent over
+  broadcast = go (answered b a h r)
+    where
+      nothing : (op : ℕ) (d : List ℕ) → toAll a ≡ true → (length (sent a op d) ≡ 0) × (over r (sent a op d) ≡ r)
+      nothing op d e = rw e (refl, refl)
+
+      go : {x : Answer} → Answered b a h r x → toAll a ≡ true → Untouched r x
+      go (unheard e) t = (refl, refl)
+      go (refused k e) t = nothing _ _ t
+      go (acted k e l) t = nothing _ _ t
+
+  -- outcomes 20 to 31 reply with opcode 255, number and place, or, to all, with nothing; the place is that of the first row that applies
+  pub error-frame : Told (answer b a h r .outcome)
+      → (place : ℕ) × First (requestTable b a h (length r)) (answer b a h r .outcome) place × ErrorFrame a r (answer b a h r) place
+  unfolding sent frameOf sealed over
+  error-frame = go (answered b a h r)
+    where
+      spoken : (n p : ℕ) (x : Bool) → toAll a ≡ x
+          → ErrorFrame a r (record { outcome = n; count = length (sent a errorOpcode (errorData n p)); store = h .store; clock = h .clock; reply = over r (sent a errorOpcode (errorData n p)) }) p
+      spoken n p true e = inl (e, rw e (refl, refl))
+      spoken n p false e = inr (e, rw e (refl, refl))
+
+      go : {x : Answer} → Answered b a h r x → Told (x .outcome) → (place : ℕ) × First (requestTable b a h (length r)) (x .outcome) place × ErrorFrame a r x place
+      go (unheard e) t = let s = silent-number b a h (length r) _ _ e in absurd (omega arith)
+      go (refused {n} {p} k e) t = (p, refused-row b a h r (k .passed) e, spoken n p (toAll a) refl)
+      go (acted k e l) t = absurd (omega arith)
+
+-- ---- the calls that no frame reaches
+
+pub system-keeps : (b : Build) (s : List ℕ) (t l k : ℕ) (v : List ℕ) → (systemWrite b s t l k v .outcome ≡ 0 → ⊥) → systemWrite b s t l k v .store ≡ s
+system-keeps b s t l k v = go (written b s t l k v)
+  where
+    go : {x : Left} → Written b s t l k v x → (x .outcome ≡ 0 → ⊥) → x .store ≡ s
+    go (unset e) n = refl
+    go (set-to w e q) n = absurd (n refl)
+
+-- a fill refuses, or leaves the defaults
+pub fill-keeps : (b : Build) (s : List ℕ) → (fill b s .outcome ≡ 0 → ⊥) → fill b s .store ≡ s
+unfolding fill
+fill-keeps b s = go (eqb (length s) (storeSize b))
+  where
+    go : (x : Bool) → (cond {A = Left} x (record { outcome = 0; store = fresh b }) (record { outcome = 2; store = s }) .outcome ≡ 0 → ⊥)
+        → cond {A = Left} x (record { outcome = 0; store = fresh b }) (record { outcome = 2; store = s }) .store ≡ s
+    go true n = absurd (n refl)
+    go false n = refl
+
+pub fill-fills : (b : Build) (s : List ℕ) → length s ≡ storeSize b → fill b s ≡ record { outcome = 0; store = fresh b }
+unfolding fill
+fill-fills b s e = rw (eq-eqb _ _ e)
+
+pub tick-keeps : (c : List ℕ) → (ticking c .outcome ≡ 0 → ⊥) → ticking c .clock ≡ c
+unfolding ticking
+tick-keeps c = go (validClock (clockOf c))
+  where
+    go : (x : Bool) → (cond {A = Passed} x (record { outcome = 0; clock = clockBytes (later (clockOf c)) }) (record { outcome = 3; clock = c }) .outcome ≡ 0 → ⊥)
+        → cond {A = Passed} x (record { outcome = 0; clock = clockBytes (later (clockOf c)) }) (record { outcome = 3; clock = c }) .clock ≡ c
+    go true n = absurd (n refl)
+    go false n = refl

@@ -1,0 +1,111 @@
+-- Demand 1, the reply space: it holds one frame at its front or is untouched, and behind that keeps its bytes; lengths stay.
+-- Assumes nothing.
+use Prim.Native.Nat.{ℕ, _+_, _≤_}
+use native.Mathlib.Omega.{arith}
+use mathlib.Core.Path.{_≡_, refl, sym, ap, _∙_}
+use mathlib.Core.Bool.{Bool, true, false}
+use mathlib.Core.Logic.{_⊎_, inl, inr}
+use mathlib.Core.List.{List, [], _∷_, _++_}
+use lib.ListN.{length, drop, length-append, length-drop}
+use lib.Seq.{drop-append-seam}
+use Rattle.base.specs.Lists.{over}
+use Rattle.points.specs.Types.{Build}
+use Rattle.store.specs.Store.{stored}
+use Rattle.store.proofs.Laws.{stored-length}
+use Rattle.frame.specs.Address.{source}
+use Rattle.frame.specs.Frame.{opcode, sealed, frameOf}
+use Rattle.frame.specs.declared.Address.{Address}
+use Rattle.rules.specs.Asked.{Asked, Held}
+use Rattle.rules.specs.Received.{longest}
+use Rattle.rules.specs.Deeds.{told}
+use Rattle.rules.specs.Answer.{Answer, toAll, errorOpcode, sent, answer}
+use Rattle.rules.specs.System.{Left, systemWrite}
+use Rattle.rules.proofs.Told.{told-length}
+use Rattle.rules.proofs.Answered.{Answered, unheard, refused, acted, answered, Written, unset, set-to, written}
+use Rattle.demands.specs.Outcomes.{Untouched, Replies}
+
+frame-length : (to us : Address) (op : ℕ) (d : List ℕ) → length (frameOf to us op d) ≡ length d + 8
+unfolding frameOf sealed
+frame-length to us op d = simp length-append (omega arith)
+
+-- what is sent is nothing, or a frame with the data
+sent-length : (a : Asked) (op : ℕ) (d : List ℕ) → length (sent a op d) ≤ length d + 8
+unfolding sent
+sent-length a op d = go (toAll a) refl
+  where
+    go : (x : Bool) → toAll a ≡ x → length (sent a op d) ≤ length d + 8
+    go true e = rw e (omega arith)
+    go false e = rw e (omega (arith, frame-length (source (a .frame)) (a .us) op d))
+
+over-length : (r f : List ℕ) → length f ≤ length r → length (over r f) ≡ length r
+unfolding over
+over-length r f h = simp (length-append, length-drop) (omega arith)
+
+over-behind : (r f : List ℕ) → drop (length f) (over r f) ≡ drop (length f) r
+unfolding over
+over-behind r f = drop-append-seam f (drop (length f) r)
+
+module _ (b : Build) (a : Asked) (h : Held) (r : List ℕ) where
+  -- every answer is nothing or one frame, to whoever asked
+  pub one-frame : Untouched r (answer b a h r) ⊎ ((op : ℕ) × (d : List ℕ) × Replies a r (answer b a h r) op d)
+  unfolding sent over
+  one-frame = go (answered b a h r)
+    where
+      either-way : (n op : ℕ) (d s c : List ℕ) (x : Bool) → toAll a ≡ x → let y : Answer = record { outcome = n; count = length (sent a op d); store = s; clock = c; reply = over r (sent a op d) } in
+          Untouched r y ⊎ ((op : ℕ) × (d : List ℕ) × Replies a r y op d)
+      either-way n op d s c true e = inl (rw e (refl, refl))
+      either-way n op d s c false e = inr (op, d, rw e (frame-length (source (a .frame)) (a .us) op d, refl))
+
+      go : {x : Answer} → Answered b a h r x → Untouched r x ⊎ ((op : ℕ) × (d : List ℕ) × Replies a r x op d)
+      go (unheard e) = inl (refl, refl)
+      go (refused {n} {p} k e) = either-way n _ (n ∷ p ∷ []) (h .store) (h .clock) (toAll a) refl
+      go (acted {d} k e l) = either-way 0 _ (told b (h .store) (d .says)) (stored b (h .store) (d .puts)) (d .clock) (toAll a) refl
+
+  -- behind a reply of any kind the reply space keeps its bytes
+  pub behind : drop (answer b a h r .count) (answer b a h r .reply) ≡ drop (answer b a h r .count) r
+  behind = go (answered b a h r)
+    where
+      go : {x : Answer} → Answered b a h r x → drop (x .count) (x .reply) ≡ drop (x .count) r
+      go (unheard e) = refl
+      go (refused {n} {p} k e) = over-behind r (sent a errorOpcode (n ∷ p ∷ []))
+      go (acted {d} k e l) = over-behind r (sent a (opcode (a .frame)) (told b (h .store) (d .says)))
+
+  -- a reply is no longer than 263 bytes, and never longer than its space
+  pub reply-fits : length (h .clock) ≡ 7 → (answer b a h r .count ≤ longest) × (answer b a h r .count ≤ length r) × (length (answer b a h r .reply) ≡ length r)
+  reply-fits = go (answered b a h r)
+    where
+      fits : (op : ℕ) (d : List ℕ) → length d ≤ 255 → longest ≤ length r
+          → (length (sent a op d) ≤ longest) × (length (sent a op d) ≤ length r) × (length (over r (sent a op d)) ≡ length r)
+      fits op d k room =
+          let s = sent-length a op d in
+          (omega arith, omega arith, over-length r (sent a op d) (omega arith))
+
+      go : {x : Answer} → Answered b a h r x → length (h .clock) ≡ 7 → (x .count ≤ longest) × (x .count ≤ length r) × (length (x .reply) ≡ length r)
+      go (unheard e) c = (omega arith, omega arith, refl)
+      go (refused {n} {p} k e) c = fits _ (n ∷ p ∷ []) (omega arith) (k .room)
+      go (acted {d} k e l) c =
+          fits _ (told b (h .store) (d .says)) (omega (arith, told-length b (a .level) (h .store) (k .whole) (d .says) (l .says), l .short c)) (k .room)
+
+  -- the store keeps its length, and so does the clock
+  pub store-length : length (answer b a h r .store) ≡ length (h .store)
+  store-length = go (answered b a h r)
+    where
+      go : {x : Answer} → Answered b a h r x → length (x .store) ≡ length (h .store)
+      go (unheard e) = refl
+      go (refused k e) = refl
+      go (acted {d} k e l) = stored-length b (h .store) (k .whole) (d .puts) (l .puts .sound) ∙ sym (k .whole)
+
+  pub clock-length : length (h .clock) ≡ 7 → length (answer b a h r .clock) ≡ 7
+  clock-length = go (answered b a h r)
+    where
+      go : {x : Answer} → Answered b a h r x → length (h .clock) ≡ 7 → length (x .clock) ≡ 7
+      go (unheard e) c = c
+      go (refused k e) c = c
+      go (acted k e l) c = l .clock c
+
+pub system-length : (b : Build) (s : List ℕ) (t l k : ℕ) (v : List ℕ) → length (systemWrite b s t l k v .store) ≡ length s
+system-length b s t l k v = go (written b s t l k v)
+  where
+    go : {x : Left} → Written b s t l k v x → length (x .store) ≡ length s
+    go (unset e) = refl
+    go (set-to {ws} w e q) = stored-length b s w ws (q .sound) ∙ sym w
