@@ -4,5 +4,7 @@ pub mod Planned
 pub mod Unframed
 pub mod Exactly
 pub mod Listed
-pub mod Refused
 pub mod Replies
+pub mod Refused
+pub mod Acted
+pub mod Kept

@@ -22,9 +22,10 @@ use Rattle.rules.specs.System.{Left, systemWrite, fill, Passed, ticking}
 use Rattle.rules.proofs.Answered.{Answered, unheard, refused, acted, answered, Written, unset, set-to, written}
 use Rattle.demands.specs.Table.{First}
 use Rattle.demands.specs.Tables.{requestTable}
-use Rattle.demands.specs.Outcomes.{Silent, Told, Untouched, ErrorFrame}
+use Rattle.demands.specs.Outcomes.{Silent, Told, Untouched, Sends}
 use Rattle.demands.proofs.Listed.{silent-number, told-number}
 use Rattle.demands.proofs.Exactly.{refused-row}
+use Rattle.demands.proofs.Replies.{sending}
 
 module _ (b : Build) (a : Asked) (h : Held) (r : List ℕ) where
   -- a refusal changes neither store nor clock
@@ -58,20 +59,15 @@ module _ (b : Build) (a : Asked) (h : Held) (r : List ℕ) where
       go (refused k e) t = nothing _ _ t
       go (acted k e l) t = nothing _ _ t
 
-  -- outcomes 20 to 31 reply with opcode 255, number and place, or, to all, with nothing; the place is that of the first row that applies
+  -- outcomes 20 to 31 reply with opcode 255, number and place: the place of the first row that applies
   pub error-frame : Told (answer b a h r .outcome)
-      → (place : ℕ) × First (requestTable b a h (length r)) (answer b a h r .outcome) place × ErrorFrame a r (answer b a h r) place
-  unfolding sent frameOf sealed over
+      → (place : ℕ) × First (requestTable b a h (length r)) (answer b a h r .outcome) place × Sends a r (answer b a h r) errorOpcode (errorData (answer b a h r .outcome) place)
   error-frame = go (answered b a h r)
     where
-      spoken : (n p : ℕ) (x : Bool) → toAll a ≡ x
-          → ErrorFrame a r (record { outcome = n; count = length (sent a errorOpcode (errorData n p)); store = h .store; clock = h .clock; reply = over r (sent a errorOpcode (errorData n p)) }) p
-      spoken n p true e = inl (e, rw e (refl, refl))
-      spoken n p false e = inr (e, rw e (refl, refl))
-
-      go : {x : Answer} → Answered b a h r x → Told (x .outcome) → (place : ℕ) × First (requestTable b a h (length r)) (x .outcome) place × ErrorFrame a r x place
+      go : {x : Answer} → Answered b a h r x → Told (x .outcome)
+          → (place : ℕ) × First (requestTable b a h (length r)) (x .outcome) place × Sends a r x errorOpcode (errorData (x .outcome) place)
       go (unheard e) t = let s = silent-number b a h (length r) _ _ e in absurd (omega arith)
-      go (refused {n} {p} k e) t = (p, refused-row b a h r (k .passed) e, spoken n p (toAll a) refl)
+      go (refused {n} {p} k e) t = (p, refused-row b a h r (k .passed) e, sending a r errorOpcode (errorData n p) refl refl)
       go (acted k e l) t = absurd (omega arith)
 
 -- ---- the calls that no frame reaches

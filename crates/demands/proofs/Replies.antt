@@ -22,7 +22,7 @@ use Rattle.rules.specs.Answer.{Answer, toAll, errorOpcode, sent, answer}
 use Rattle.rules.specs.System.{Left, systemWrite}
 use Rattle.rules.proofs.Told.{told-length}
 use Rattle.rules.proofs.Answered.{Answered, unheard, refused, acted, answered, Written, unset, set-to, written}
-use Rattle.demands.specs.Outcomes.{Untouched, Replies}
+use Rattle.demands.specs.Outcomes.{Untouched, Sends, to-all, to-one}
 
 frame-length : (to us : Address) (op : ℕ) (d : List ℕ) → length (frameOf to us op d) ≡ length d + 8
 unfolding frameOf sealed
@@ -45,21 +45,24 @@ over-behind : (r f : List ℕ) → drop (length f) (over r f) ≡ drop (length f
 unfolding over
 over-behind r f = drop-append-seam f (drop (length f) r)
 
+-- a frame that is sent, to all or to one
+pub sending : (a : Asked) (r : List ℕ) {x : Answer} (op : ℕ) (d : List ℕ) → x .count ≡ length (sent a op d) → x .reply ≡ over r (sent a op d) → Sends a r x op d
+unfolding sent over
+sending a r {x} op d ec er = go (toAll a) refl
+  where
+    go : (y : Bool) → toAll a ≡ y → Sends a r x op d
+    go true e = to-all e (ec ∙ rw e, er ∙ rw e)
+    go false e = to-one e (ec ∙ rw e (frame-length (source (a .frame)) (a .us) op d), er ∙ rw e)
+
 module _ (b : Build) (a : Asked) (h : Held) (r : List ℕ) where
   -- every answer is nothing or one frame, to whoever asked
-  pub one-frame : Untouched r (answer b a h r) ⊎ ((op : ℕ) × (d : List ℕ) × Replies a r (answer b a h r) op d)
-  unfolding sent over
+  pub one-frame : Untouched r (answer b a h r) ⊎ ((op : ℕ) × (d : List ℕ) × Sends a r (answer b a h r) op d)
   one-frame = go (answered b a h r)
     where
-      either-way : (n op : ℕ) (d s c : List ℕ) (x : Bool) → toAll a ≡ x → let y : Answer = record { outcome = n; count = length (sent a op d); store = s; clock = c; reply = over r (sent a op d) } in
-          Untouched r y ⊎ ((op : ℕ) × (d : List ℕ) × Replies a r y op d)
-      either-way n op d s c true e = inl (rw e (refl, refl))
-      either-way n op d s c false e = inr (op, d, rw e (frame-length (source (a .frame)) (a .us) op d, refl))
-
-      go : {x : Answer} → Answered b a h r x → Untouched r x ⊎ ((op : ℕ) × (d : List ℕ) × Replies a r x op d)
+      go : {x : Answer} → Answered b a h r x → Untouched r x ⊎ ((op : ℕ) × (d : List ℕ) × Sends a r x op d)
       go (unheard e) = inl (refl, refl)
-      go (refused {n} {p} k e) = either-way n _ (n ∷ p ∷ []) (h .store) (h .clock) (toAll a) refl
-      go (acted {d} k e l) = either-way 0 _ (told b (h .store) (d .says)) (stored b (h .store) (d .puts)) (d .clock) (toAll a) refl
+      go (refused {n} {p} k e) = inr (errorOpcode, n ∷ p ∷ [], sending a r _ _ refl refl)
+      go (acted {d} k e l) = inr (opcode (a .frame), told b (h .store) (d .says), sending a r _ _ refl refl)
 
   -- behind a reply of any kind the reply space keeps its bytes
   pub behind : drop (answer b a h r .count) (answer b a h r .reply) ≡ drop (answer b a h r .count) r

@@ -1,3 +1,4 @@
 pub mod Table
 pub mod Tables
 pub mod Outcomes
+pub mod Brought

@@ -12,7 +12,7 @@ use Rattle.frame.specs.Frame.{frameOf}
 use Rattle.values.specs.declared.Reading.{Reading}
 use Rattle.values.specs.declared.Reading.the-variants.{Got, Refused}
 use Rattle.rules.specs.Asked.{Asked}
-use Rattle.rules.specs.Answer.{Answer, toAll, errorOpcode, errorData}
+use Rattle.rules.specs.Answer.{Answer, toAll}
 
 -- 1 to 8 write no byte
 abbrev pub Silent : ℕ → Type 0
@@ -46,7 +46,7 @@ Untouched r x = (x .count ≡ 0) × (x .reply ≡ r)
 abbrev pub Replies : Asked → List ℕ → Answer → ℕ → List ℕ → Type 0
 Replies a r x op d = (x .count ≡ length d + 8) × (x .reply ≡ over r (frameOf (source (a .frame)) (a .us) op d))
 
--- to all: not a byte; else an error frame with the outcome and a place
-abbrev pub ErrorFrame : Asked → List ℕ → Answer → ℕ → Type 0
-ErrorFrame a r x place =
-    ((toAll a ≡ true) × Untouched r x) ⊎ ((toAll a ≡ false) × Replies a r x errorOpcode (errorData (x .outcome) place))
+-- a frame is sent to whoever asked; where the request is to all, not a byte is
+pub data Sends (a : Asked) (r : List ℕ) (x : Answer) (op : ℕ) (d : List ℕ) : Type 0 where
+  to-all : toAll a ≡ true → Untouched r x → Sends a r x op d
+  to-one : toAll a ≡ false → Replies a r x op d → Sends a r x op d
