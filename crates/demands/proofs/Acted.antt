@@ -26,7 +26,7 @@ use Rattle.demands.proofs.Replies.{sending}
 
 -- ---- the two walks
 
-writing-brings : (b : Build) (who : Caller) (s : List ℕ) (src : Source) (n : ℕ) (d : List ℕ) (at : ℕ) (ws : List Write)
+pub writing-brings : (b : Build) (who : Caller) (s : List ℕ) (src : Source) (n : ℕ) (d : List ℕ) (at : ℕ) (ws : List Write)
     → Holds (λ vs. vs ≡ valuesIn src n d ws) (writing b who s src n d at ws)
 unfolding writing valuesIn
 writing-brings b who s src zero d at ws = step _ λ _. passing refl

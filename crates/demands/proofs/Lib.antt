@@ -8,3 +8,5 @@ pub mod Replies
 pub mod Refused
 pub mod Acted
 pub mod Kept
+pub mod Settings
+pub mod Ranges
