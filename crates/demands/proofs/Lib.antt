@@ -10,3 +10,5 @@ pub mod Acted
 pub mod Kept
 pub mod Settings
 pub mod Ranges
+pub mod Secret
+pub mod Apart

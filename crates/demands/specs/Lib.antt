@@ -2,3 +2,4 @@ pub mod Table
 pub mod Tables
 pub mod Outcomes
 pub mod Brought
+pub mod Calls

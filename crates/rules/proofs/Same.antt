@@ -26,14 +26,14 @@ use Rattle.rules.proofs.Lawful.{Lawful, lawful, setting-puts}
 use Rattle.rules.proofs.Alike.{plan-same, setting-same, received-same}
 
 -- two answers that level K does not tell apart
-pub record Alike (b : Build) (K : ℕ) (x y : Answer) : Type 0 where
+pub record SameAnswer (b : Build) (K : ℕ) (x y : Answer) : Type 0 where
   pub outcome : x .outcome ≡ y .outcome
   pub count : x .count ≡ y .count
   pub clock : x .clock ≡ y .clock
   pub reply : x .reply ≡ y .reply
   pub store : Agree b K (x .store) (y .store)
 
-pub record LeftAlike (b : Build) (K : ℕ) (x y : Left) : Type 0 where
+pub record SameLeft (b : Build) (K : ℕ) (x y : Left) : Type 0 where
   pub outcome : x .outcome ≡ y .outcome
   pub store : Agree b K (x .store) (y .store)
 
@@ -45,7 +45,7 @@ module _ (b : Build) (K : ℕ) (s t : List ℕ) (ls : length s ≡ storeSize b) 
     abbrev other : Held
     other = record { store = t; clock = c }
 
-    carried-same : {p : Check Deeds} → Holds (Lawful b (a .level) one) p → Alike b K (carried b a one r p) (carried b a other r p)
+    carried-same : {p : Check Deeds} → Holds (Lawful b (a .level) one) p → SameAnswer b K (carried b a one r p) (carried b a other r p)
     unfolding carried
     carried-same faulty = record { outcome = refl; count = refl; clock = refl; reply = refl; store = same }
     carried-same (passing {a = d} o) =
@@ -61,23 +61,23 @@ module _ (b : Build) (K : ℕ) (s t : List ℕ) (ls : length s ≡ storeSize b) 
     planned-same : planned b a one ≡ planned b a other
     planned-same = plan-same b s t ls lt (lower b K 0 s t (omega arith) same) c (a .level) (dataOf (a .frame)) (opcodeOf (opcode (a .frame)))
 
-    admitted-same : (x : Check Unit) → Alike b K (admitted b a one r x) (admitted b a other r x)
+    admitted-same : (x : Check Unit) → SameAnswer b K (admitted b a one r x) (admitted b a other r x)
     unfolding admitted
     admitted-same (fault n p) = record { outcome = refl; count = refl; clock = refl; reply = refl; store = same }
     admitted-same (pass x) =
         rw (← planned-same) (carried-same (lawful b (a .level) one (dataOf (a .frame)) (opcodeOf (opcode (a .frame)))))
 
-    pub answer-same : Alike b K (answer b a one r) (answer b a other r)
+    pub answer-same : SameAnswer b K (answer b a one r) (answer b a other r)
     unfolding answer
     answer-same =
         rw (← received-same b s t ls lt (lower b K 0 s t (omega arith) same) a c (length r)) (admitted-same (received b a one (length r)))
 
-  leaving-same : {p : Check (List Write)} → Holds (Puts b system s) p → LeftAlike b K (leaving b s p) (leaving b t p)
+  leaving-same : {p : Check (List Write)} → Holds (Puts b system s) p → SameLeft b K (leaving b s p) (leaving b t p)
   unfolding leaving
   leaving-same faulty = record { outcome = refl; store = same }
   leaving-same (passing {a = ws} o) = record { outcome = refl; store = stored-same b K s t ls lt same ws (o .sound) }
 
-  pub system-same : (y l k : ℕ) (v : List ℕ) → LeftAlike b K (systemWrite b s y l k v) (systemWrite b t y l k v)
+  pub system-same : (y l k : ℕ) (v : List ℕ) → SameLeft b K (systemWrite b s y l k v) (systemWrite b t y l k v)
   unfolding systemWrite
   system-same y l k v =
       rw (← setting-same b s t ls lt (lower b K 0 s t (omega arith) same) y l k v) (leaving-same (setting-puts b s y l k v))
