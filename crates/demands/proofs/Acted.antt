@@ -49,13 +49,13 @@ reading-tells-all b who s src (suc n) d at ps =
 -- ---- each opcode
 
 -- a plan's values, reply and clock are those of the request
-record Keeps (b : Build) (o : Opcode) (h : Held) (d : List ℕ) (x : Deeds) : Type 0 where
-  puts : x .puts ≡ brought b o h d
-  tells : told b (h .store) (x .says) ≡ replied b o h d
-  clock : x .clock ≡ clockLeft o h d
+pub record Keeps (b : Build) (o : Opcode) (h : Held) (d : List ℕ) (x : Deeds) : Type 0 where
+  pub puts : x .puts ≡ brought b o h d
+  pub tells : told b (h .store) (x .says) ≡ replied b o h d
+  pub clock : x .clock ≡ clockLeft o h d
 
 module _ (b : Build) (L : ℕ) (h : Held) (d : List ℕ) where
-  keeps : (o : Opcode) → Holds (Keeps b o h d) (plan b o L h d)
+  pub keeps : (o : Opcode) → Holds (Keeps b o h d) (plan b o L h d)
   unfolding plan brought replied clockLeft plan7 plan8 plan167 plan166 plan180 plan181 plan10 plan11 told shown
   keeps read7 = step _ λ _. passing (record { puts = refl; tells = refl; clock = refl })
   keeps set8 =

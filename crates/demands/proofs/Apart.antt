@@ -57,36 +57,49 @@ computing = 0
 
 -- ---- a fresh store, and one with another value
 
-module _ (K : ℕ) (w : Write) (o : Sound gateway w) (hidden : K < point (w .type) .reads) where
-  abbrev pub other : List ℕ
-  other = storing gateway (fresh gateway) w
+abbrev pub freshBut : Write → List ℕ
+freshBut w = storing gateway (fresh gateway) w
 
-  pub alike : Alike gateway K (start (fresh gateway)) (start other)
-  alike =
-      record {
-        whole = length-fresh gateway;
-        whole-too = storing-length gateway (fresh gateway) w (length-fresh gateway) o;
-        store = unseen gateway K (fresh gateway) w (length-fresh gateway) o hidden;
-        clock = refl;
-      }
+pub alike : (K : ℕ) (w : Write) → Sound gateway w → K < point (w .type) .reads → Alike gateway K (start (fresh gateway)) (start (freshBut w))
+alike K w o hidden =
+    record {
+      whole = length-fresh gateway;
+      whole-too = storing-length gateway (fresh gateway) w (length-fresh gateway) o;
+      store = unseen gateway K (fresh gateway) w (length-fresh gateway) o hidden;
+      clock = refl;
+    }
 
-  -- no sequence of calls at levels up to K tells them apart
-  pub not-told : (cs : List Call) → All (Within K) cs → run gateway (start (fresh gateway)) cs .seen ≡ run gateway (start other) cs .seen
-  not-told cs h = secret gateway K _ _ alike cs h .seen
+-- no sequence of calls at levels up to K tells them apart
+pub not-told : (K : ℕ) (w : Write) → Sound gateway w → K < point (w .type) .reads → (cs : List Call) → All (Within K) cs
+    → run gateway (start (fresh gateway)) cs .seen ≡ run gateway (start (freshBut w)) cs .seen
+not-told K w o hidden cs h = secret gateway K _ _ (alike K w o hidden) cs h .seen
 
 -- ---- level 1: twenty letters S in the first text of type 123, which level 2 reads
 
-abbrev pub group : Write
-group = record { type = 4; logical = 0; parameter = 0; bytes = replicate 20 83 }
+abbrev pub lettered : Write
+lettered = record { type = 4; logical = 0; parameter = 0; bytes = replicate 20 83 }
 
-pub group-sound : Sound gateway group
+pub alike-at-1 : Alike gateway 1 (start (fresh gateway)) (start (freshBut lettered))
 unfolding placing
-group-sound = record { logical = omega arith; parameter = omega arith; long = refl }
+alike-at-1 = alike 1 lettered (record { logical = omega arith; parameter = omega arith; long = refl }) (omega arith)
 
-pub group-hidden : 1 < point (group .type) .reads
-unfolding placing
-group-hidden = omega arith
-
-pub told-at-2 : run gateway (start (fresh gateway)) (asking 2 123 0 0 ∷ []) .seen ≡ run gateway (start (other 1 group group-sound group-hidden)) (asking 2 123 0 0 ∷ []) .seen → ⊥
+pub told-at-2 : run gateway (start (fresh gateway)) (asking 2 123 0 0 ∷ []) .seen ≡ run gateway (start (freshBut lettered)) (asking 2 123 0 0 ∷ []) .seen → ⊥
 unfolding computing
 told-at-2 e = let z : _≡_ {A = ℕ} 32 83 = ap shownByte e in omega arith
+
+-- ---- level 0: the power switch of type 122 off, which level 1 reads
+
+abbrev pub switched : Write
+switched = record { type = 3; logical = 0; parameter = 0; bytes = 0 ∷ [] }
+
+pub alike-at-0 : Alike gateway 0 (start (fresh gateway)) (start (freshBut switched))
+unfolding placing
+alike-at-0 = alike 0 switched (record { logical = omega arith; parameter = omega arith; long = refl }) (omega arith)
+
+pub told-at-1 : run gateway (start (fresh gateway)) (asking 1 122 0 0 ∷ []) .seen ≡ run gateway (start (freshBut switched)) (asking 1 122 0 0 ∷ []) .seen → ⊥
+unfolding computing
+told-at-1 e = let z : _≡_ {A = ℕ} 1 0 = ap shownByte e in omega arith
+
+-- so the stores of each pair differ
+pub differ : (w : Write) (cs : List Call) → (run gateway (start (fresh gateway)) cs .seen ≡ run gateway (start (freshBut w)) cs .seen → ⊥) → fresh gateway ≡ freshBut w → ⊥
+differ w cs told e = told (ap (λ (s : List ℕ). run gateway (start s) cs .seen) e)

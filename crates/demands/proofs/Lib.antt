@@ -12,3 +12,4 @@ pub mod Settings
 pub mod Ranges
 pub mod Secret
 pub mod Apart
+pub mod Clocks
