@@ -1,24 +1,22 @@
 -- Demand 2, what is acted on: the values that a request brings are stored, all and in their order; the reply and the clock are as listed.
 -- Assumes nothing.
-use Prim.Native.Nat.{ℕ, zero, suc, _+_}
+use Prim.Native.Nat.{ℕ, zero, suc}
 use native.Mathlib.Omega.{arith}
 use mathlib.Core.Path.{_≡_, refl, sym, ap, _∙_}
-use mathlib.Core.Bool.{false}
-use mathlib.Core.List.{List, [], _∷_, _++_, append-assoc, append-nil}
-use lib.ListN.{length, getD, take, drop}
-use Rattle.base.specs.Check.{Check, fault, pass}
+use mathlib.Core.List.{List, [], _++_, append-assoc, append-nil}
+use lib.ListN.{length, getD, drop}
+use Rattle.base.specs.Check.{pass}
 use Rattle.base.proofs.Checks.{Holds, faulty, passing, step, step-with, holds-map}
-use Rattle.points.specs.Types.{Build, indexOf, tables}
+use Rattle.points.specs.Types.{Build}
 use Rattle.store.specs.Store.{Write, value, values, stored}
-use Rattle.frame.specs.Frame.{opcode, dataOf}
+use Rattle.frame.specs.Frame.{dataOf}
 use Rattle.rules.specs.Asked.{Asked, Held}
-use Rattle.rules.specs.Deeds.{Piece, plain, held, Deeds, shown, told}
-use Rattle.rules.specs.Entries.{Caller, request, Source, block, named, located, spoken, after}
-use Rattle.rules.specs.Lists.{readLevel, writeLevel, reading, entry, writing}
-use Rattle.rules.specs.Opcodes.{plan7, plan8, plan167, plan166, plan180, plan181, plan10, plan11, Opcode, read7, set8, read10, write11, write166, read167, read180, write181, unserved, opcodeOf, plan}
+use Rattle.rules.specs.Deeds.{Piece, Deeds, shown, told}
+use Rattle.rules.specs.Entries.{Caller, request, Source, block, named, located, after}
+use Rattle.rules.specs.Lists.{readLevel, writeLevel, reading, writing}
+use Rattle.rules.specs.Opcodes.{plan7, plan8, plan167, plan166, plan180, plan181, plan10, plan11, Opcode, read7, set8, read10, write11, write166, read167, read180, write181, unserved, plan}
 use Rattle.rules.specs.Answer.{Answer, planned, answer}
 use Rattle.rules.proofs.Answered.{Answered, unheard, refused, acted, answered}
-use Rattle.demands.specs.Tables.{nameOf}
 use Rattle.demands.specs.Brought.{valuesIn, brought, valuesOf, replied, clockLeft, operation, ActedOn}
 use Rattle.demands.proofs.Tabled.{next-names}
 use Rattle.demands.proofs.Listed.{silent-number, told-number}

@@ -3,7 +3,7 @@
 -- Assumes nothing.
 use Prim.Native.Nat.{ℕ, _<_}
 use native.Mathlib.Omega.{arith}
-use mathlib.Core.Path.{_≡_, refl, sym, ap, _∙_}
+use mathlib.Core.Path.{_≡_, refl, sym, ap}
 use mathlib.Core.List.{List, [], _∷_}
 use lib.ListN.{length, getD, replicate}
 use Rattle.base.specs.Check.{_>>=_, test, from}
@@ -11,16 +11,16 @@ use Rattle.base.specs.Lists.{All, part, put, over}
 use Rattle.crc.specs.Crc.{turn, turns4, crcByte, crcFrom, crcOf}
 use Rattle.clock.specs.Calendar.{leap, monthDays, validDate}
 use Rattle.clock.specs.Moments.{validClock, clockOf}
-use Rattle.points.specs.Types.{points, Build, point, height, logicals, gateway}
-use Rattle.points.specs.Place.{placing, lenAt, storeSize}
+use Rattle.points.specs.Types.{Build, point, gateway}
+use Rattle.points.specs.Place.{placing, storeSize}
 use Rattle.points.specs.There.{there}
 use Rattle.store.specs.Store.{value, values, Write, storing}
 use Rattle.store.specs.Fresh.{fresh}
-use Rattle.store.proofs.Laws.{Sound, storing-there, storing-elsewhere, storing-length}
+use Rattle.store.proofs.Laws.{Sound, storing-elsewhere, storing-length}
 use Rattle.store.proofs.Fresh.{length-fresh}
 use Rattle.frame.specs.Address.{address, sameAddress, stationary, forUs}
 use Rattle.frame.specs.Frame.{dataOf, crcRight, sealed, frameOf}
-use Rattle.rules.specs.Asked.{Asked, Held}
+use Rattle.rules.specs.Asked.{Held}
 use Rattle.rules.specs.Received.{received, longest}
 use Rattle.rules.specs.Deeds.{shown, told}
 use Rattle.rules.specs.Entries.{found, next}
@@ -28,7 +28,7 @@ use Rattle.rules.specs.Lists.{ends, fitting, reading}
 use Rattle.rules.specs.Opcodes.{counted, plan180, opcodeOf, plan}
 use Rattle.rules.specs.Answer.{sent, carried, admitted, answer}
 use Rattle.rules.proofs.Agree.{Agree}
-use Rattle.demands.specs.Calls.{Call, asks, Seen, Done, call, run, Within, Alike}
+use Rattle.demands.specs.Calls.{Call, asks, Seen, call, run, Within, Alike}
 use Rattle.demands.proofs.Secret.{secret}
 
 -- a value stored where level K may not read is not seen at level K

@@ -3,11 +3,11 @@
 use Prim.Native.Nat.{ℕ, suc, _+_, _*_, _/_, _%_, _≤_, _<_}
 use native.Mathlib.Numerals.{add-one}
 use native.Mathlib.Omega.{arith}
-use mathlib.Core.Path.{_≡_, refl, sym, ap, _∙_}
+use mathlib.Core.Path.{_≡_, refl}
 use mathlib.Core.Bool.{Bool, true, false, _&&_, cond}
-use mathlib.Core.List.{List, [], _∷_}
-use borrow.Author.Tests.{leb-true, le-leb, ltb-true, ltb-false, lt-ltb}
-use lib.ListN.{length, getD, set, take}
+use mathlib.Core.List.{List}
+use borrow.Author.Tests.{leb-true, le-leb, ltb-true, lt-ltb}
+use lib.ListN.{getD, set, take}
 use lib.Seq.{getD-take}
 use lib.Dec.{leb, ltb}
 use Rattle.base.proofs.Below.{at-below, both-left, both-right}

@@ -1,10 +1,9 @@
 -- Demand 2, refusals: an outcome comes exactly where its row is the first of the call's table that applies.
 -- Assumes nothing.
 use Prim.Native.Nat.{ℕ}
-use native.Mathlib.Omega.{arith}
-use mathlib.Core.Path.{_≡_, refl, sym, ap, _∙_}
+use mathlib.Core.Path.{_≡_, refl, sym, _∙_}
 use mathlib.Core.Bool.{Bool, true, false, cond}
-use mathlib.Core.Logic.{_⊎_, inl, inr, _↔_}
+use mathlib.Core.Logic.{inl, inr, _↔_}
 use mathlib.Core.List.{List, [], _∷_}
 use lib.ListN.{length}
 use lib.Dec.{eqb}
@@ -15,14 +14,13 @@ use Rattle.points.specs.Place.{storeSize}
 use Rattle.store.specs.Fresh.{fresh}
 use Rattle.frame.specs.Frame.{opcode, dataOf}
 use Rattle.values.specs.Number.{numberRead, readingOf}
-use Rattle.values.specs.declared.Number.{Number}
 use Rattle.rules.specs.Asked.{Asked, Held}
 use Rattle.rules.specs.Received.{received}
 use Rattle.rules.specs.Opcodes.{opcodeOf}
 use Rattle.rules.specs.Answer.{Answer, planned, answer}
 use Rattle.rules.specs.System.{setting, Left, leaving, systemWrite, fill, Passed, ticking}
-use Rattle.rules.proofs.Answered.{Answered, unheard, refused, acted, answered, Written, unset, set-to, written}
-use Rattle.demands.specs.Table.{Refusal, unless, firstOf, First, NoneApplies, Gives}
+use Rattle.rules.proofs.Answered.{Answered, unheard, refused, acted, answered}
+use Rattle.demands.specs.Table.{Refusal, unless, firstOf, First, Gives}
 use Rattle.demands.specs.Tables.{receivedTable, planTable, requestTable, systemTable, fillTable, tickTable, numberTable}
 use Rattle.demands.specs.Outcomes.{outcomeOf}
 use Rattle.demands.proofs.Says.{first-given, given-first, none-given, given-none, join-first, Says, blank}

@@ -1,32 +1,26 @@
 -- Demand 2, the store: what is not named keeps its bytes, what is named holds the last value, and what may not be written is never changed.
 -- Assumes nothing.
-use Prim.Native.Nat.{ℕ, _≤_, _<_}
+use Prim.Native.Nat.{ℕ, _<_}
 use native.Mathlib.Omega.{arith}
-use mathlib.Core.Path.{_≡_, refl, sym, ap, _∙_}
-use mathlib.Core.Bool.{Bool, true, false}
-use mathlib.Core.List.{List, [], _∷_, _++_}
+use mathlib.Core.Path.{_≡_, refl, ap, _∙_}
+use mathlib.Core.Bool.{true, false}
+use mathlib.Core.List.{List, _∷_, _++_}
 use borrow.Author.Tests.{leb-true, not-true}
 use lib.ListN.{length}
-use Rattle.base.specs.Lists.{All}
 use Rattle.base.proofs.Checks.{all-map}
 use Rattle.points.specs.Row.{lockedAt}
-use Rattle.points.specs.Types.{Build, logicals, point, row, indexOf}
-use Rattle.store.specs.Store.{value, Write, stored}
+use Rattle.points.specs.Types.{Build, logicals, point, row}
+use Rattle.store.specs.Store.{value, Write}
 use Rattle.store.proofs.Laws.{Names, stored-elsewhere, stored-there}
 use Rattle.frame.specs.Frame.{dataOf}
 use Rattle.rules.specs.Asked.{Asked, Held}
 use Rattle.rules.specs.Entries.{request}
 use Rattle.rules.specs.Answer.{Answer, answer}
-use Rattle.rules.specs.System.{Left, systemWrite}
 use Rattle.rules.proofs.Walks.{Allowed}
-use Rattle.rules.proofs.Answered.{Answered, unheard, refused, acted, answered, Written, unset, set-to, written}
-use Rattle.demands.specs.Brought.{brought, operation}
+use Rattle.rules.proofs.Answered.{Answered, unheard, refused, acted, answered}
+use Rattle.demands.specs.Brought.{brought, Unnamed, operation}
 use Rattle.demands.proofs.Listed.{silent-number, told-number}
 use Rattle.demands.proofs.Acted.{brings}
-
--- none of some values is for this parameter
-abbrev pub Unnamed : List Write → ℕ → ℕ → ℕ → Type 0
-Unnamed ws i l k = All (λ w. Names w i l k → ⊥) ws
 
 module _ (b : Build) (a : Asked) (h : Held) (r : List ℕ) (i l k : ℕ) (hl : l < logicals b i) where
   -- a parameter that the request does not name keeps its bytes

@@ -13,3 +13,5 @@ pub mod Ranges
 pub mod Secret
 pub mod Apart
 pub mod Clocks
+pub mod Unique
+pub mod Numbered

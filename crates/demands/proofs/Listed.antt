@@ -1,15 +1,14 @@
 -- Demand 1, outcomes: every call ends with one that document 01 lists for it.
 -- Assumes nothing.
-use Prim.Native.Nat.{ℕ, zero, suc, _+_, _≤_}
+use Prim.Native.Nat.{ℕ, zero, suc, _+_}
 use native.Mathlib.Omega.{arith}
-use mathlib.Core.Path.{_≡_, refl, sym, ap, _∙_}
-use mathlib.Core.Logic.{_⊎_, inl, inr}
+use mathlib.Core.Path.{_≡_, refl, sym, _∙_}
+use mathlib.Core.Logic.{inl, inr}
 use mathlib.Core.List.{List, [], _∷_, _++_, map}
-use lib.ListN.{length, getD, take, drop}
-use Rattle.base.specs.Check.{Check, fault, pass}
+use lib.ListN.{length, getD, drop}
+use Rattle.base.specs.Check.{fault}
 use Rattle.base.specs.Lists.{All}
-use Rattle.base.proofs.Checks.{all-map}
-use Rattle.points.specs.Types.{Build, Point, point, indexOf, tables}
+use Rattle.points.specs.Types.{Build, Point, point, indexOf}
 use Rattle.store.specs.Store.{Write}
 use Rattle.values.specs.Number.{numberRead, readingOf}
 use Rattle.frame.specs.Frame.{opcode, dataOf}
@@ -22,13 +21,13 @@ use Rattle.rules.specs.Opcodes.{Opcode, read7, set8, read10, write11, write166,
 use Rattle.rules.specs.Answer.{Answer, planned, answer}
 use Rattle.rules.specs.System.{systemWrite, fill, ticking}
 use Rattle.rules.proofs.Answered.{Answered, unheard, refused, acted, answered}
-use Rattle.demands.specs.Table.{Refusal, unless, First, Gives}
-use Rattle.demands.specs.Tables.{receivedTable, entryTable, nameOf, valueTable, readTable, writeTable, spanTable, locateTable, countTable, planTable, requestTable, systemTable, numberTable, fillTable, tickTable}
+use Rattle.demands.specs.Table.{Refusal, First, Gives}
+use Rattle.demands.specs.Tables.{receivedTable, entryTable, nameOf, valueTable, readTable, writeTable, spanTable, locateTable, countTable, planTable, systemTable, numberTable, fillTable, tickTable}
 use Rattle.demands.specs.Outcomes.{Silent, Told, Listed, Among, outcomeOf}
 use Rattle.demands.proofs.Says.{given-first, first-has, blank}
 use Rattle.demands.proofs.Tabled.{received-says}
 use Rattle.demands.proofs.Planned.{plan-says}
-use Rattle.demands.proofs.Exactly.{exactly, system-exactly, number-exactly, fill-exactly, tick-exactly}
+use Rattle.demands.proofs.Exactly.{system-exactly, number-exactly, fill-exactly, tick-exactly}
 
 -- each row of a table has a number with P
 record Numbers (P : ℕ → Type 0) (rs : List Refusal) : Type 0 where

@@ -1,35 +1,40 @@
 -- Each opcode's checks are its table, and so are those of the system write and of the number read.
 -- Assumes nothing.
-use Prim.Native.Nat.{ℕ, _+_, _≤_, _<_}
+use Prim.Native.Nat.{ℕ, _<_}
 use native.Mathlib.Omega.{arith}
-use mathlib.Core.Path.{_≡_, refl, sym, ap, _∙_}
-use mathlib.Core.Bool.{Bool, true, false, not}
+use mathlib.Core.Path.{_≡_, refl}
+use mathlib.Core.Bool.{Bool, true, false}
 use mathlib.Core.List.{List, [], _∷_}
 use borrow.Author.Tests.{ltb-true, ltb-false}
-use lib.ListN.{length, getD, drop, List·getD-eq-default}
-use lib.Dec.{leb, ltb, eqb}
+use lib.ListN.{getD, drop, List·getD-eq-default}
+use lib.Dec.{ltb}
 use Rattle.base.specs.Check.{Check}
 use Rattle.base.proofs.Below.{at-below}
 use Rattle.points.specs.Types.{points, Build, counts, logicals, point, height, indexOf}
 use Rattle.rules.specs.Asked.{Held}
-use Rattle.rules.specs.Entries.{request, block, named, located}
+use Rattle.rules.specs.Entries.{request, named}
 use Rattle.rules.specs.Lists.{ends, fitting}
 use Rattle.rules.specs.Opcodes.{plan7, plan8, lastOf, spans, plan167, plan166, counted, plan180, plan181, locates, plan10, plan11, Opcode, read7, set8, read10, write11, write166, read167, read180, write181, unserved, plan}
-use Rattle.demands.specs.Table.{Refusal, unless, firstOf}
-use Rattle.demands.specs.Tables.{typeRow, logicalRow, parameterRow, shortRow, countRow, clockTable, countTable, locateTable, planTable}
+use Rattle.demands.specs.Table.{unless, firstOf}
+use Rattle.demands.specs.Tables.{typeRow, logicalRow, parameterRow, shortRow, countRow, countTable, locateTable, planTable}
 use Rattle.demands.proofs.Says.{Says, blank, say, ask, last, follow, end}
 use Rattle.demands.proofs.Tabled.{there-says, reading-says, writing-says}
 
 -- ---- 167 and 166: a type with a logical has a parameter 0, and what the first check found is there
 
--- a type with a logical is one of the six, and each of those has a parameter 0
-has-first : (b : Build) (i : ℕ) → ltb 0 (logicals b i) ≡ true → ltb 0 (height (point i)) ≡ true
-unfolding logicals point points
-has-first b i e = go (ltb i 6) refl
+-- a type with a logical is one of the six
+pub six : (b : Build) (i l : ℕ) → l < logicals b i → i < 6
+unfolding logicals
+six b i l h = go (ltb i 6) refl
   where
-    go : (x : Bool) → ltb i 6 ≡ x → ltb 0 (height (point i)) ≡ true
-    go true h = at-below 6 (λ j. ltb 0 (height (point j))) refl i (ltb-true i 6 h)
-    go false h = absurd (omega (arith, ltb-true 0 (logicals b i) e, List·getD-eq-default (counts b) 0 (ltb-false i 6 h)))
+    go : (x : Bool) → ltb i 6 ≡ x → i < 6
+    go true e = ltb-true i 6 e
+    go false e = absurd (omega (arith, List·getD-eq-default (counts b) 0 (ltb-false i 6 e)))
+
+-- and each of those has a parameter 0
+has-first : (b : Build) (i : ℕ) → ltb 0 (logicals b i) ≡ true → ltb 0 (height (point i)) ≡ true
+unfolding point points
+has-first b i e = at-below 6 (λ j. ltb 0 (height (point j))) refl i (six b i 0 (ltb-true _ _ e))
 
 -- a row that stood before, or that follows from one that did, is none
 again : {A : Type 0} {c : Check A} (s x y z n last : Bool) (m : ℕ) → (x ≡ true → z ≡ true)

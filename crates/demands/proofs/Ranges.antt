@@ -1,18 +1,18 @@
 -- Demand 2, ranges: a store all of whose values are in range stays so under every call, and the fresh store is so.
 -- Assumes nothing.
-use Prim.Native.Nat.{ℕ, _≤_, _<_}
+use Prim.Native.Nat.{ℕ, _<_}
 use native.Mathlib.Omega.{arith}
 use mathlib.Core.Path.{_≡_, refl, ap, _∙_, fun-ext}
 use mathlib.Core.Bool.{Bool, true, false, cond}
 use mathlib.Core.List.{List}
-use borrow.Author.Tests.{eqb-true, ltb-true, ltb-false}
-use lib.ListN.{length, List·getD-eq-default}
-use lib.Dec.{eqb, ltb}
+use borrow.Author.Tests.{eqb-true}
+use lib.ListN.{length}
+use lib.Dec.{eqb}
 use Rattle.base.specs.Check.{Check, fault, pass, _>>=_, test}
 use Rattle.base.specs.Lists.{only}
 use Rattle.base.specs.Bytes.{le}
 use Rattle.base.proofs.Below.{below, at-below}
-use Rattle.points.specs.Types.{points, Build, counts, logicals, point, height, row, segments, gateway}
+use Rattle.points.specs.Types.{points, Build, logicals, point, height, row, segments, gateway}
 use Rattle.points.specs.Place.{storeSize}
 use Rattle.store.specs.Store.{value}
 use Rattle.store.specs.Fresh.{defaultOf, fresh}
@@ -25,6 +25,8 @@ use Rattle.rules.specs.Answer.{Answer, answer}
 use Rattle.rules.specs.System.{Left, systemWrite, fill}
 use Rattle.rules.proofs.InRange.{InRange, stored-in-range}
 use Rattle.rules.proofs.Answered.{Answered, unheard, refused, acted, answered, Written, unset, set-to, written}
+use Rattle.demands.specs.Builds.{NoLarger}
+use Rattle.demands.proofs.Planned.{six}
 
 pub stays-in-range : (b : Build) (a : Asked) (h : Held) (r : List ℕ) → InRange b (h .store) → InRange b (answer b a h r .store)
 stays-in-range b a h r good = go (answered b a h r)
@@ -63,18 +65,6 @@ all-start b = refl
 pairs-start : below 13 (λ l. below 14 (λ k. paired (pairOf k) l (defaultOf segments l))) ≡ true
 unfolding paired pairOf defaultOf row point le
 pairs-start = refl
-
-abbrev pub NoLarger : Build → Type 0
-NoLarger b = (i : ℕ) → logicals b i ≤ logicals gateway i
-
--- a type with a logical is one of the six
-pub six : (b : Build) (i l : ℕ) → l < logicals b i → i < 6
-unfolding logicals
-six b i l h = go (ltb i 6) refl
-  where
-    go : (x : Bool) → ltb i 6 ≡ x → i < 6
-    go true e = ltb-true i 6 e
-    go false e = absurd (omega (arith, List·getD-eq-default (counts b) 0 (ltb-false i 6 e)))
 
 module _ (b : Build) (small : NoLarger b) where
   fresh-alone : (i l k : ℕ) → l < logicals b i → k < height (point i) → judged b (row i k) l (value b (fresh b) i l k) ≡ pass tt

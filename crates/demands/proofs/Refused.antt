@@ -1,11 +1,10 @@
 -- Demand 1, refusals: they leave store and clock, and the reply space holds one error frame or is untouched.
 -- Assumes nothing.
-use Prim.Native.Nat.{ℕ, _+_, _≤_}
+use Prim.Native.Nat.{ℕ}
 use native.Mathlib.Omega.{arith}
 use mathlib.Core.Path.{_≡_, refl}
 use mathlib.Core.Bool.{Bool, true, false, cond}
-use mathlib.Core.Logic.{_⊎_, inl, inr}
-use mathlib.Core.List.{List, [], _∷_}
+use mathlib.Core.List.{List}
 use borrow.Author.Tests.{eq-eqb}
 use lib.ListN.{length}
 use lib.Dec.{eqb}
@@ -14,8 +13,6 @@ use Rattle.clock.specs.Moments.{validClock, later, clockOf, clockBytes}
 use Rattle.points.specs.Types.{Build}
 use Rattle.points.specs.Place.{storeSize}
 use Rattle.store.specs.Fresh.{fresh}
-use Rattle.frame.specs.Address.{source}
-use Rattle.frame.specs.Frame.{sealed, frameOf}
 use Rattle.rules.specs.Asked.{Asked, Held}
 use Rattle.rules.specs.Answer.{Answer, toAll, errorOpcode, errorData, sent, answer}
 use Rattle.rules.specs.System.{Left, systemWrite, fill, Passed, ticking}

@@ -2,15 +2,14 @@
 -- Assumes nothing.
 use Prim.Native.Nat.{ℕ, _+_, _≤_}
 use native.Mathlib.Omega.{arith}
-use mathlib.Core.Path.{_≡_, refl, sym, ap, _∙_}
+use mathlib.Core.Path.{_≡_, refl, sym, _∙_}
 use mathlib.Core.Bool.{Bool, true, false}
 use mathlib.Core.Logic.{_⊎_, inl, inr}
-use mathlib.Core.List.{List, [], _∷_, _++_}
+use mathlib.Core.List.{List, [], _∷_}
 use lib.ListN.{length, drop, length-append, length-drop}
 use lib.Seq.{drop-append-seam}
 use Rattle.base.specs.Lists.{over}
 use Rattle.points.specs.Types.{Build}
-use Rattle.store.specs.Store.{stored}
 use Rattle.store.proofs.Laws.{stored-length}
 use Rattle.frame.specs.Address.{source}
 use Rattle.frame.specs.Frame.{opcode, sealed, frameOf}

@@ -1,28 +1,21 @@
 -- Demand 3: two stores that agree on all that level K may read are not told apart by any sequence of calls at levels up to K, and still
 -- agree afterwards.
 -- Assumes nothing.
-use Prim.Native.Nat.{ℕ, _≤_}
-use mathlib.Core.Path.{_≡_, refl, sym, ap, ap₂, _∙_}
+use Prim.Native.Nat.{ℕ}
+use mathlib.Core.Path.{_≡_, refl, ap, ap₂, _∙_}
 use mathlib.Core.List.{List, [], _∷_}
 use lib.ListN.{length}
 use Rattle.base.specs.Lists.{All}
 use Rattle.points.specs.Types.{Build}
 use Rattle.points.specs.Place.{storeSize}
-use Rattle.store.specs.Fresh.{fresh}
 use Rattle.store.proofs.Fresh.{length-fresh}
-use Rattle.rules.specs.Asked.{Asked, Held}
-use Rattle.rules.specs.Answer.{Answer, answer}
-use Rattle.rules.specs.System.{Left, systemWrite, fill, Passed, ticking}
+use Rattle.rules.specs.Asked.{Held}
+use Rattle.rules.specs.Answer.{Answer}
 use Rattle.rules.proofs.Agree.{Agree}
-use Rattle.rules.proofs.Same.{SameAnswer, SameLeft, answer-same, system-same}
-use Rattle.demands.specs.Calls.{Call, asks, sets, fills, ticks, Seen, Done, framed, unframed, call, Ran, run, Within, Alike}
+use Rattle.rules.proofs.Same.{SameAnswer, answer-same, system-same}
+use Rattle.demands.specs.Calls.{Call, asks, sets, fills, ticks, Seen, framed, unframed, call, run, Within, Alike, Untold, Secret}
 use Rattle.demands.proofs.Replies.{store-length, system-length}
 use Rattle.demands.proofs.Refused.{fill-fills}
-
--- nothing that is seen differs, and what is held stays alike
-pub record Untold (b : Build) (K : ℕ) (x y : Done) : Type 0 where
-  pub seen : x .seen ≡ y .seen
-  pub held : Alike b K (x .held) (y .held)
 
 -- ---- one call
 
@@ -62,10 +55,6 @@ untold b K h g e x w = go (g .clock) (e .clock)
     go c f = rw (← f) (call-same b K (h .store) (g .store) (e .whole) (e .whole-too) (e .store) (h .clock) x w)
 
 -- ---- any sequence
-
-pub record Secret (b : Build) (K : ℕ) (h g : Held) (cs : List Call) : Type 0 where
-  pub seen : run b h cs .seen ≡ run b g cs .seen
-  pub held : Alike b K (run b h cs .held) (run b g cs .held)
 
 pub secret : (b : Build) (K : ℕ) (h g : Held) → Alike b K h g → (cs : List Call) → All (Within K) cs → Secret b K h g cs
 unfolding run

@@ -3,13 +3,12 @@
 use Prim.Native.Nat.{ℕ, _≤_, _<_}
 use native.Mathlib.Omega.{arith}
 use mathlib.Core.Path.{_≡_, refl, sym, ap, _∙_}
-use mathlib.Core.Logic.{inl, inr}
 use mathlib.Core.List.{List, [], _∷_}
 use borrow.Author.Tests.{eqb-true}
 use lib.ListN.{length, take}
 use lib.Seq.{take-all}
-use Rattle.base.specs.Check.{Check, fault, pass}
-use Rattle.base.proofs.Checks.{Holds, faulty, passing, step, holds-map}
+use Rattle.base.specs.Check.{fault, pass}
+use Rattle.base.proofs.Checks.{Holds, passing, step}
 use Rattle.points.specs.Types.{Build, logicals, indexOf}
 use Rattle.points.specs.Place.{lenAt}
 use Rattle.store.specs.Store.{value, Write, stored}
@@ -17,15 +16,11 @@ use Rattle.store.proofs.Laws.{Names, stored-there, stored-elsewhere}
 use Rattle.rules.specs.Entries.{system, block}
 use Rattle.rules.specs.System.{setting, Left, systemWrite}
 use Rattle.rules.proofs.Answered.{Written, unset, set-to, written}
-use Rattle.demands.specs.Tables.{systemTable}
+use Rattle.demands.specs.Tables.{setTo, systemTable}
 use Rattle.demands.specs.Brought.{valuesIn}
 use Rattle.demands.proofs.Says.{given-first, first-has, blank}
 use Rattle.demands.proofs.Acted.{writing-brings}
 use Rattle.demands.proofs.Unframed.{setting-says}
-
--- the value as it is stored
-abbrev pub setTo : (t l k : ℕ) → List ℕ → Write
-setTo t l k v = record { type = indexOf t; logical = l; parameter = k; bytes = v }
 
 module _ (b : Build) (s : List ℕ) (t l k : ℕ) (v : List ℕ) where
   setting-brings : Holds (λ ws. ws ≡ setTo t l k v ∷ []) (setting b s t l k v)

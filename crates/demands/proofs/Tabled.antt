@@ -1,19 +1,16 @@
 -- Each call's checks are its table: what a request, a list's entry, a system write and a number read are refused for, in order.
 -- Assumes nothing.
-use Prim.Native.Nat.{ℕ, zero, suc, _+_, _-_, _≤_, _<_}
+use Prim.Native.Nat.{ℕ, zero, suc}
 use native.Mathlib.Nat.{add-zero}
-use native.Mathlib.Omega.{arith}
-use mathlib.Core.Path.{_≡_, refl, sym, ap, _∙_}
-use mathlib.Core.Bool.{Bool, true, false, not}
-use mathlib.Core.List.{List, [], _∷_, _++_}
-use lib.ListN.{length, getD, drop}
-use lib.Dec.{leb, ltb, eqb}
-use Rattle.base.specs.Check.{Check, fault, pass, _>>=_, test, from}
+use mathlib.Core.Path.{_≡_, refl, ap}
+use mathlib.Core.Bool.{Bool, true, false}
+use mathlib.Core.List.{List, [], _∷_}
+use lib.Dec.{ltb}
+use Rattle.base.specs.Check.{fault, pass, _>>=_, test, from}
 use Rattle.base.proofs.Checks.{Holds, passing, step}
 use Rattle.points.specs.Types.{Build, Point, logicals, point, height, indexOf}
 use Rattle.points.specs.Place.{placeOf, pick}
 use Rattle.points.specs.There.{there}
-use Rattle.points.specs.declared.Place.{Place}
 use Rattle.points.specs.declared.Place.the-variants.{At, NoType, NoLogical, NoParameter}
 use Rattle.store.specs.Store.{Write}
 use Rattle.points.specs.Row.{Row}
@@ -22,11 +19,11 @@ use Rattle.values.specs.Judged.{inRange, judged}
 use Rattle.rules.specs.Asked.{Asked, Held}
 use Rattle.rules.specs.Received.{received}
 use Rattle.rules.specs.Deeds.{Piece}
-use Rattle.rules.specs.Entries.{Caller, Named, Source, block, named, located, spoken, after, found, next, lockedPlace}
-use Rattle.rules.specs.Lists.{readLevel, writeLevel, ends, fitting, reading, entry, accepts, writing}
-use Rattle.demands.specs.Table.{Refusal, unless, firstOf}
+use Rattle.rules.specs.Entries.{Caller, Named, Source, block, named, located, after, found, next}
+use Rattle.rules.specs.Lists.{readLevel, writeLevel, ends, fitting, reading, accepts, writing}
+use Rattle.demands.specs.Table.{unless, firstOf}
 use Rattle.demands.specs.Tables.{receivedTable, typeRow, logicalRow, parameterRow, foundTable, entryTable, nameOf, valueTable, readTable, writeTable}
-use Rattle.demands.proofs.Says.{Says, blank, say, ask, last, follow, follow-with, merge, merge-right}
+use Rattle.demands.proofs.Says.{Says, blank, say, ask, follow, follow-with, merge, merge-right}
 
 -- ---- outcomes 1 to 8
 

@@ -1,6 +1,6 @@
 -- The checks of the calls that no frame reaches are their tables: system write, number read.
 -- Assumes nothing.
-use Prim.Native.Nat.{ℕ, _≤_}
+use Prim.Native.Nat.{ℕ}
 use native.Mathlib.Omega.{arith}
 use mathlib.Core.Path.{_≡_, refl}
 use mathlib.Core.Bool.{true}
@@ -19,7 +19,7 @@ use Rattle.rules.specs.Lists.{writing}
 use Rattle.rules.specs.System.{setting}
 use Rattle.demands.specs.Table.{unless, firstOf}
 use Rattle.demands.specs.Tables.{rangeHolds, writeTable, systemTable, numberTable}
-use Rattle.demands.proofs.Says.{Says, blank, say, ask, follow, sure, sure-next}
+use Rattle.demands.proofs.Says.{Says, blank, ask, follow, sure, sure-next}
 use Rattle.demands.proofs.Tabled.{there-says, writing-says}
 
 -- a list of one value of the right length: it may be read-only, is never short and leaves nothing spare

@@ -5,10 +5,12 @@ use Prim.Native.Nat.{ℕ, zero, suc}
 use mathlib.Core.Path.{_≡_}
 use mathlib.Core.List.{List, [], _∷_, _++_}
 use lib.ListN.{getD, take, drop}
+use Rattle.base.specs.Lists.{All}
 use Rattle.clock.specs.Moments.{clockOf, weekdayAt}
 use Rattle.points.specs.Types.{Build, indexOf, tables}
 use Rattle.points.specs.Place.{lenAt}
 use Rattle.store.specs.Store.{Write, value, values, stored}
+use Rattle.store.proofs.Laws.{Names}
 use Rattle.frame.specs.Frame.{opcode, dataOf}
 use Rattle.rules.specs.Asked.{Asked, Held}
 use Rattle.rules.specs.Entries.{Named, Source, block, named, located, spoken, after}
@@ -37,6 +39,10 @@ brought b read167 h d = []
 brought b read180 h d = []
 brought b write181 h d = valuesIn named (getD d 0 0) (drop 1 d) []
 brought b unserved h d = []
+
+-- none of some values is for this parameter
+abbrev pub Unnamed : List Write → ℕ → ℕ → ℕ → Type 0
+Unnamed ws i l k = All (λ w. Names w i l k → ⊥) ws
 
 -- ---- the data of the reply
 

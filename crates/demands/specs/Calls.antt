@@ -79,3 +79,13 @@ pub record Alike (b : Build) (K : ℕ) (h g : Held) : Type 0 where
   pub whole-too : length (g .store) ≡ storeSize b
   pub store : Agree b K (h .store) (g .store)
   pub clock : h .clock ≡ g .clock
+
+-- nothing that is seen of a call differs, and what is held stays alike
+pub record Untold (b : Build) (K : ℕ) (x y : Done) : Type 0 where
+  pub seen : x .seen ≡ y .seen
+  pub held : Alike b K (x .held) (y .held)
+
+-- nor of a sequence
+pub record Secret (b : Build) (K : ℕ) (h g : Held) (cs : List Call) : Type 0 where
+  pub seen : run b h cs .seen ≡ run b g cs .seen
+  pub held : Alike b K (run b h cs .held) (run b g cs .held)

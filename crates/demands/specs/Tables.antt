@@ -1,6 +1,6 @@
 -- The tables of document 01: for each call, what it may be refused for, in order, with number and place.
 -- Assumes nothing.
-use Prim.Native.Nat.{ℕ, zero, suc, _+_, _-_}
+use Prim.Native.Nat.{ℕ, zero, suc, _+_}
 use mathlib.Core.Bool.{Bool, false, not}
 use mathlib.Core.List.{List, [], _∷_, _++_}
 use lib.ListN.{length, getD, take, drop}
@@ -189,6 +189,10 @@ abbrev pub requestTable : Build → Asked → Held → ℕ → List Refusal
 requestTable b a h r =
     receivedTable b a h r ++ planTable b (opcodeOf (opcode (a .frame))) (a .level) h (dataOf (a .frame))
 
+-- the value of a system write
+abbrev pub setTo : (t l k : ℕ) → List ℕ → Write
+setTo t l k v = record { type = indexOf t; logical = l; parameter = k; bytes = v }
+
 -- 2, 22, 23, 24, 21, 27
 abbrev pub systemTable : Build → List ℕ → (t l k : ℕ) → List ℕ → List Refusal
 systemTable b s t l k v =
@@ -197,7 +201,7 @@ systemTable b s t l k v =
     ∷ logicalRow b t l 0
     ∷ parameterRow t k 0
     ∷ unless (eqb (length v) (lenAt (indexOf t) k)) 21 0
-    ∷ unless (rangeHolds b s [] (record { type = indexOf t; logical = l; parameter = k; bytes = v })) 27 0
+    ∷ unless (rangeHolds b s [] (setTo t l k v)) 27 0
     ∷ []
 
 -- 2, 22, 23, 24, 27 for text and TLP

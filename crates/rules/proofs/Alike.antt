@@ -1,7 +1,7 @@
 -- Two whole stores that agree in what everybody may read give every request and every system write the same plan: a check looks at the
 -- store only for the locations of type 99 and for the pairs of type 124.
 -- Assumes nothing.
-use Prim.Native.Nat.{ℕ, zero, suc, _+_, _≤_, _<_}
+use Prim.Native.Nat.{ℕ, zero, suc, _<_}
 use native.Mathlib.Omega.{arith}
 use mathlib.Core.Path.{_≡_, refl}
 use mathlib.Core.List.{List, [], _∷_}
@@ -17,7 +17,7 @@ use Rattle.rules.specs.Asked.{Asked, Held}
 use Rattle.rules.specs.Received.{received}
 use Rattle.rules.specs.Entries.{Caller, request, system, Named, Source, block, named, located, spoken, after}
 use Rattle.rules.specs.Lists.{writeLevel, entry, accepts, writing}
-use Rattle.rules.specs.Opcodes.{plan7, plan8, plan167, plan166, plan180, plan181, plan10, plan11, Opcode, read7, set8, read10, write11, write166, read167, read180, write181, unserved, plan}
+use Rattle.rules.specs.Opcodes.{plan7, plan167, plan166, plan180, plan181, plan10, plan11, Opcode, read7, set8, read10, write11, write166, read167, read180, write181, unserved, plan}
 use Rattle.rules.specs.System.{setting}
 use Rattle.rules.proofs.Agree.{Agree, tables-open, together-same, values-same, stored-same}
 use Rattle.rules.proofs.Found.{is-placed, Ready, next-holds, ready-after}

@@ -1,6 +1,6 @@
 -- Every answer is one of three: not received, refused, acted on; with all that it leaves. The same of a system write.
 -- Assumes nothing.
-use Prim.Native.Nat.{ℕ, _+_, _≤_, _<_}
+use Prim.Native.Nat.{ℕ, _+_, _≤_}
 use mathlib.Core.Path.{_≡_, refl}
 use mathlib.Core.Bool.{true}
 use mathlib.Core.List.{List, [], _∷_}
@@ -18,7 +18,7 @@ use Rattle.rules.specs.Asked.{Asked, Held}
 use Rattle.rules.specs.Received.{received, longest}
 use Rattle.rules.specs.Deeds.{Deeds, told}
 use Rattle.rules.specs.Entries.{system}
-use Rattle.rules.specs.Opcodes.{opcodeOf, plan}
+use Rattle.rules.specs.Opcodes.{opcodeOf}
 use Rattle.rules.specs.Answer.{Answer, errorOpcode, sent, carried, planned, admitted, answer}
 use Rattle.rules.specs.System.{setting, Left, leaving, systemWrite}
 use Rattle.rules.proofs.Walks.{Puts}

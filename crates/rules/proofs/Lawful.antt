@@ -1,13 +1,12 @@
 -- What a plan that passed its checks keeps to, for each opcode: it tells what its level may read, and stores what has its place, is in
 -- range and may be written. The same of a system write.
 -- Assumes nothing.
-use Prim.Native.Nat.{ℕ, _+_, _-_, _≤_, _<_}
+use Prim.Native.Nat.{ℕ, _+_, _≤_}
 use native.Mathlib.Omega.{arith}
 use mathlib.Core.Path.{_≡_, refl}
-use mathlib.Core.Bool.{true}
-use mathlib.Core.List.{List, [], _∷_, _++_}
+use mathlib.Core.List.{List, []}
 use borrow.Author.Tests.{leb-true, ltb-true}
-use lib.ListN.{length, getD, take, length-append}
+use lib.ListN.{length, getD, length-append}
 use lib.Seq.{length-take-le}
 use Rattle.base.specs.Lists.{All}
 use Rattle.base.proofs.Checks.{Holds, faulty, passing, step, step-with}
@@ -20,7 +19,7 @@ use Rattle.rules.specs.System.{setting}
 use Rattle.rules.proofs.Agree.{tables-open}
 use Rattle.rules.proofs.Told.{Readable}
 use Rattle.rules.proofs.Found.{is-placed}
-use Rattle.rules.proofs.Walks.{Tells, reading-tells, Puts, nothing, writing-puts}
+use Rattle.rules.proofs.Walks.{reading-tells, Puts, nothing, writing-puts}
 
 pub record Lawful (b : Build) (L : ℕ) (h : Held) (d : Deeds) : Type 0 where
   pub says : All (Readable b L) (d .says)

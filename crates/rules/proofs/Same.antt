@@ -10,7 +10,7 @@ use Rattle.base.specs.Lists.{over}
 use Rattle.base.proofs.Checks.{Holds, faulty, passing}
 use Rattle.points.specs.Types.{Build}
 use Rattle.points.specs.Place.{storeSize}
-use Rattle.store.specs.Store.{Write, stored}
+use Rattle.store.specs.Store.{Write}
 use Rattle.frame.specs.Frame.{opcode, dataOf}
 use Rattle.rules.specs.Asked.{Asked, Held}
 use Rattle.rules.specs.Received.{received}
@@ -18,7 +18,7 @@ use Rattle.rules.specs.Deeds.{Deeds, told}
 use Rattle.rules.specs.Entries.{system}
 use Rattle.rules.specs.Opcodes.{opcodeOf}
 use Rattle.rules.specs.Answer.{Answer, sent, carried, planned, admitted, answer}
-use Rattle.rules.specs.System.{setting, Left, leaving, systemWrite}
+use Rattle.rules.specs.System.{Left, leaving, systemWrite}
 use Rattle.rules.proofs.Agree.{Agree, lower, stored-same}
 use Rattle.rules.proofs.Told.{told-same}
 use Rattle.rules.proofs.Walks.{Puts}
