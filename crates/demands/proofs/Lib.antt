@@ -15,3 +15,4 @@ pub mod Apart
 pub mod Clocks
 pub mod Unique
 pub mod Numbered
+pub mod Runs

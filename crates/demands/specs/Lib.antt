@@ -3,4 +3,4 @@ pub mod Tables
 pub mod Outcomes
 pub mod Brought
 pub mod Calls
-pub mod Builds
+pub mod Good
