@@ -1,6 +1,6 @@
 -- Demand 1, refusals: they leave store and clock, and the reply space holds one error frame or is untouched.
 -- Assumes nothing.
-use Prim.Native.Nat.{ℕ}
+use Prim.Native.Nat.{ℕ, _≤_}
 use native.Mathlib.Omega.{arith}
 use mathlib.Core.Path.{_≡_, refl}
 use mathlib.Core.Bool.{Bool, true, false, cond}
@@ -16,6 +16,7 @@ use Rattle.store.specs.Fresh.{fresh}
 use Rattle.rules.specs.Asked.{Asked, Held}
 use Rattle.rules.specs.Answer.{Answer, toAll, errorOpcode, errorData, sent, answer}
 use Rattle.rules.specs.System.{Left, systemWrite, fill, Passed, ticking}
+use Rattle.rules.proofs.Places.{place-fits}
 use Rattle.rules.proofs.Answered.{Answered, unheard, refused, acted, answered, Written, unset, set-to, written}
 use Rattle.demands.specs.Table.{First}
 use Rattle.demands.specs.Tables.{requestTable}
@@ -56,15 +57,15 @@ module _ (b : Build) (a : Asked) (h : Held) (r : List ℕ) where
       go (refused k e) t = nothing _ _ t
       go (acted k e l) t = nothing _ _ t
 
-  -- outcomes 20 to 31 reply with opcode 255, number and place: the place of the first row that applies
+  -- outcomes 20 to 31 reply with opcode 255, number and place: the place of the first row that applies, which is a byte
   pub error-frame : Told (answer b a h r .outcome)
-      → (place : ℕ) × First (requestTable b a h (length r)) (answer b a h r .outcome) place × Sends a r (answer b a h r) errorOpcode (errorData (answer b a h r .outcome) place)
+      → (place : ℕ) × (place ≤ 255) × First (requestTable b a h (length r)) (answer b a h r .outcome) place × Sends a r (answer b a h r) errorOpcode (errorData (answer b a h r .outcome) place)
   error-frame = go (answered b a h r)
     where
       go : {x : Answer} → Answered b a h r x → Told (x .outcome)
-          → (place : ℕ) × First (requestTable b a h (length r)) (x .outcome) place × Sends a r x errorOpcode (errorData (x .outcome) place)
+          → (place : ℕ) × (place ≤ 255) × First (requestTable b a h (length r)) (x .outcome) place × Sends a r x errorOpcode (errorData (x .outcome) place)
       go (unheard e) t = let s = silent-number b a h (length r) _ _ e in absurd (omega arith)
-      go (refused {n} {p} k e) t = (p, refused-row b a h r (k .passed) e, sending a r errorOpcode (errorData n p) refl refl)
+      go (refused {n} {p} k e) t = (p, place-fits b a h (length r) n p k e, refused-row b a h r (k .passed) e, sending a r errorOpcode (errorData n p) refl refl)
       go (acted k e l) t = absurd (omega arith)
 
 -- ---- the calls that no frame reaches

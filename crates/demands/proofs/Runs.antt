@@ -1,17 +1,16 @@
 -- Demand 2 over sequences: what is in order stays in order, whatever calls come, and a filled store with a valid clock is.
 -- Assumes nothing.
 use Prim.Native.Nat.{ℕ}
-use mathlib.Core.Path.{_≡_, refl, _∙_}
+use mathlib.Core.Path.{_≡_, _∙_}
 use mathlib.Core.Bool.{true}
 use mathlib.Core.List.{List, [], _∷_}
 use lib.ListN.{length}
 use Rattle.clock.specs.Moments.{validClock, clockOf, clockBytes}
-use Rattle.points.specs.Types.{Build, gateway}
-use Rattle.points.specs.Place.{storeSize}
+use Rattle.points.specs.Types.{Build}
 use Rattle.store.specs.Fresh.{fresh}
 use Rattle.store.proofs.Fresh.{length-fresh}
 use Rattle.rules.specs.Asked.{Held}
-use Rattle.rules.specs.System.{fill, ticking}
+use Rattle.rules.specs.System.{ticking}
 use Rattle.demands.specs.Calls.{Call, asks, sets, fills, ticks, call, run}
 use Rattle.demands.specs.Good.{Good, NoLarger}
 use Rattle.demands.proofs.Replies.{store-length, clock-length, system-length}

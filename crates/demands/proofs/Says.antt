@@ -8,7 +8,7 @@ use mathlib.Core.Logic.{inl, inr}
 use mathlib.Core.List.{List, [], _∷_, _++_}
 use Rattle.base.specs.Check.{Check, fault, pass, _>>=_, test}
 use Rattle.base.specs.Lists.{All, both}
-use Rattle.base.proofs.Checks.{Holds, faulty, passing}
+use Rattle.base.proofs.Checks.{Holds, faulty, passing, anyway}
 use Rattle.demands.specs.Table.{Refusal, unless, firstOf, First, NoneApplies}
 
 -- ---- a table gives a number and a place exactly where the row with these is the first that applies
@@ -94,12 +94,8 @@ unfolding blank _>>=_
 follow-with {rs} {qs} s faulty h = record { says = rw (join-first rs qs, ← s .says) }
 follow-with {rs} {qs} s (passing {a} q) h = record { says = rw (join-first rs qs, ← s .says) (h a q .says) }
 
-anything : {A : Type 0} (c : Check A) → Holds (λ _. Unit) c
-anything (fault n p) = faulty
-anything (pass a) = passing tt
-
 pub follow : {A B : Type 0} {c : Check A} {f : A → Check B} {rs qs : List Refusal} → Says c rs → ((a : A) → Says (f a) qs) → Says (c >>= f) (rs ++ qs)
-follow {c} s h = follow-with s (anything c) λ a _. h a
+follow {c} s h = follow-with s (anyway (tt {0}) c) λ a _. h a
 
 -- what follows a table's last row is no row
 pub end : {A B : Type 0} {c : Check A} {f : A → Check B} {rs : List Refusal} → Says c rs → ((a : A) → Says (f a) []) → Says (c >>= f) rs

@@ -8,7 +8,7 @@ use borrow.Author.Tests.{leb-true, eqb-true}
 use lib.ListN.{length}
 use Rattle.base.specs.Check.{Check, fault, pass}
 use Rattle.base.specs.Lists.{over}
-use Rattle.base.proofs.Checks.{Holds, faulty, passing, step}
+use Rattle.base.proofs.Checks.{Holds, passing, step, anyway}
 use Rattle.clock.specs.Moments.{validClock, clockOf}
 use Rattle.points.specs.Types.{Build}
 use Rattle.points.specs.Place.{storeSize}
@@ -77,11 +77,7 @@ pub data Written (b : Build) (s : List ℕ) (t l k : ℕ) (v : List ℕ) : Left 
 
 setting-whole : (b : Build) (s : List ℕ) (t l k : ℕ) (v : List ℕ) → Holds (λ _. length s ≡ storeSize b) (setting b s t l k v)
 unfolding setting
-setting-whole b s t l k v = step _ λ whole. step _ λ _. step _ λ _. always (eqb-true _ _ whole) _
-  where
-    always : {A P : Type 0} → P → (c : Check A) → Holds (λ _. P) c
-    always q (fault n p) = faulty
-    always q (pass x) = passing q
+setting-whole b s t l k v = step _ λ whole. step _ λ _. step _ λ _. anyway (eqb-true _ _ whole) _
 
 module _ (b : Build) (s : List ℕ) (t l k : ℕ) (v : List ℕ) where
   leaving-is : (c : Check (List Write)) → setting b s t l k v ≡ c → Holds (λ _. length s ≡ storeSize b) c → Holds (Puts b system s) c

@@ -7,3 +7,4 @@ pub mod Lawful
 pub mod Alike
 pub mod Answered
 pub mod Same
+pub mod Places
