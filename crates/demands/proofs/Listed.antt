@@ -22,7 +22,8 @@ use Rattle.rules.specs.Answer.{Answer, planned, answer}
 use Rattle.rules.specs.System.{systemWrite, fill, ticking}
 use Rattle.rules.proofs.Answered.{Answered, unheard, refused, acted, answered}
 use Rattle.demands.specs.Table.{Refusal, First, Gives}
-use Rattle.demands.specs.Tables.{receivedTable, entryTable, nameOf, valueTable, readTable, writeTable, spanTable, locateTable, countTable, planTable, systemTable, numberTable, fillTable, tickTable}
+use Rattle.demands.specs.Rows.{entryTable, nameOf, valueTable, readTable, writeTable}
+use Rattle.demands.specs.Tables.{receivedTable, spanTable, locateTable, countTable, planTable, systemTable, numberTable, fillTable, tickTable}
 use Rattle.demands.specs.Outcomes.{Silent, Told, Listed, Among, outcomeOf}
 use Rattle.demands.proofs.Says.{given-first, first-has, blank}
 use Rattle.demands.proofs.Tabled.{received-says}

@@ -16,7 +16,8 @@ use Rattle.rules.specs.Entries.{request, named}
 use Rattle.rules.specs.Lists.{ends, fitting}
 use Rattle.rules.specs.Opcodes.{plan7, plan8, lastOf, spans, plan167, plan166, counted, plan180, plan181, locates, plan10, plan11, Opcode, read7, set8, read10, write11, write166, read167, read180, write181, unserved, plan}
 use Rattle.demands.specs.Table.{unless, firstOf}
-use Rattle.demands.specs.Tables.{typeRow, logicalRow, parameterRow, shortRow, countRow, countTable, locateTable, planTable}
+use Rattle.demands.specs.Rows.{typeRow, logicalRow, parameterRow, shortRow, countRow}
+use Rattle.demands.specs.Tables.{countTable, locateTable, planTable}
 use Rattle.demands.proofs.Says.{Says, blank, say, ask, last, follow, end}
 use Rattle.demands.proofs.Tabled.{there-says, reading-says, writing-says}
 

@@ -1,6 +1,6 @@
 -- Demand 1, refusals: they leave store and clock, and the reply space holds one error frame or is untouched.
 -- Assumes nothing.
-use Prim.Native.Nat.{ℕ, _≤_}
+use Prim.Native.Nat.{ℕ}
 use native.Mathlib.Omega.{arith}
 use mathlib.Core.Path.{_≡_, refl}
 use mathlib.Core.Bool.{Bool, true, false, cond}
@@ -18,9 +18,7 @@ use Rattle.rules.specs.Answer.{Answer, toAll, errorOpcode, errorData, sent, ans
 use Rattle.rules.specs.System.{Left, systemWrite, fill, Passed, ticking}
 use Rattle.rules.proofs.Places.{place-fits}
 use Rattle.rules.proofs.Answered.{Answered, unheard, refused, acted, answered, Written, unset, set-to, written}
-use Rattle.demands.specs.Table.{First}
-use Rattle.demands.specs.Tables.{requestTable}
-use Rattle.demands.specs.Outcomes.{Silent, Told, Untouched, Sends}
+use Rattle.demands.specs.Outcomes.{Silent, Told, Untouched, ErrorFrame}
 use Rattle.demands.proofs.Listed.{silent-number, told-number}
 use Rattle.demands.proofs.Exactly.{refused-row}
 use Rattle.demands.proofs.Replies.{sending}
@@ -57,15 +55,19 @@ module _ (b : Build) (a : Asked) (h : Held) (r : List ℕ) where
       go (refused k e) t = nothing _ _ t
       go (acted k e l) t = nothing _ _ t
 
-  -- outcomes 20 to 31 reply with opcode 255, number and place: the place of the first row that applies, which is a byte
-  pub error-frame : Told (answer b a h r .outcome)
-      → (place : ℕ) × (place ≤ 255) × First (requestTable b a h (length r)) (answer b a h r .outcome) place × Sends a r (answer b a h r) errorOpcode (errorData (answer b a h r .outcome) place)
+  -- outcomes 20 to 31 reply with an error frame
+  pub error-frame : Told (answer b a h r .outcome) → ErrorFrame b a h r (answer b a h r)
   error-frame = go (answered b a h r)
     where
-      go : {x : Answer} → Answered b a h r x → Told (x .outcome)
-          → (place : ℕ) × (place ≤ 255) × First (requestTable b a h (length r)) (x .outcome) place × Sends a r x errorOpcode (errorData (x .outcome) place)
+      go : {x : Answer} → Answered b a h r x → Told (x .outcome) → ErrorFrame b a h r x
       go (unheard e) t = let s = silent-number b a h (length r) _ _ e in absurd (omega arith)
-      go (refused {n} {p} k e) t = (p, place-fits b a h (length r) n p k e, refused-row b a h r (k .passed) e, sending a r errorOpcode (errorData n p) refl refl)
+      go (refused {n} {p} k e) t =
+          record {
+            place = p;
+            byte = place-fits b a h (length r) n p k e;
+            row = refused-row b a h r (k .passed) e;
+            frame = sending a r errorOpcode (errorData n p) refl refl;
+          }
       go (acted k e l) t = absurd (omega arith)
 
 -- ---- the calls that no frame reaches

@@ -22,7 +22,8 @@ use Rattle.rules.specs.Deeds.{Piece}
 use Rattle.rules.specs.Entries.{Caller, Named, Source, block, named, located, after, found, next}
 use Rattle.rules.specs.Lists.{readLevel, writeLevel, ends, fitting, reading, accepts, writing}
 use Rattle.demands.specs.Table.{unless, firstOf}
-use Rattle.demands.specs.Tables.{receivedTable, typeRow, logicalRow, parameterRow, foundTable, entryTable, nameOf, valueTable, readTable, writeTable}
+use Rattle.demands.specs.Rows.{typeRow, logicalRow, parameterRow, foundTable, entryTable, nameOf, valueTable, readTable, writeTable}
+use Rattle.demands.specs.Tables.{receivedTable}
 use Rattle.demands.proofs.Says.{Says, blank, say, ask, follow, follow-with, merge, merge-right}
 
 -- ---- outcomes 1 to 8

@@ -18,7 +18,8 @@ use Rattle.rules.specs.Entries.{system, block}
 use Rattle.rules.specs.Lists.{writing}
 use Rattle.rules.specs.System.{setting}
 use Rattle.demands.specs.Table.{unless, firstOf}
-use Rattle.demands.specs.Tables.{rangeHolds, writeTable, systemTable, numberTable}
+use Rattle.demands.specs.Rows.{rangeHolds, writeTable}
+use Rattle.demands.specs.Tables.{systemTable, numberTable}
 use Rattle.demands.proofs.Says.{Says, blank, ask, follow, sure, sure-next}
 use Rattle.demands.proofs.Tabled.{there-says, writing-says}
 

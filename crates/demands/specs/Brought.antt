@@ -17,7 +17,7 @@ use Rattle.rules.specs.Entries.{Named, Source, block, named, located, spoken, a
 use Rattle.rules.specs.Lists.{entry}
 use Rattle.rules.specs.Opcodes.{locations, Opcode, read7, set8, read10, write11, write166, read167, read180, write181, unserved, opcodeOf}
 use Rattle.rules.specs.Answer.{Answer}
-use Rattle.demands.specs.Tables.{nameOf}
+use Rattle.demands.specs.Rows.{nameOf}
 use Rattle.demands.specs.Outcomes.{Sends}
 
 -- ---- values to store: each behind the entry that names it, the last of them first in the list

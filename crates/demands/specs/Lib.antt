@@ -1,4 +1,5 @@
 pub mod Table
+pub mod Rows
 pub mod Tables
 pub mod Outcomes
 pub mod Brought

@@ -11,8 +11,11 @@ use Rattle.frame.specs.Address.{source}
 use Rattle.frame.specs.Frame.{frameOf}
 use Rattle.values.specs.declared.Reading.{Reading}
 use Rattle.values.specs.declared.Reading.the-variants.{Got, Refused}
-use Rattle.rules.specs.Asked.{Asked}
-use Rattle.rules.specs.Answer.{Answer, toAll}
+use Rattle.points.specs.Types.{Build}
+use Rattle.rules.specs.Asked.{Asked, Held}
+use Rattle.rules.specs.Answer.{Answer, toAll, errorOpcode, errorData}
+use Rattle.demands.specs.Table.{First}
+use Rattle.demands.specs.Tables.{requestTable}
 
 -- 1 to 8 write no byte
 abbrev pub Silent : ℕ → Type 0
@@ -50,3 +53,10 @@ Replies a r x op d = (x .count ≡ length d + 8) × (x .reply ≡ over r (frameO
 pub data Sends (a : Asked) (r : List ℕ) (x : Answer) (op : ℕ) (d : List ℕ) : Type 0 where
   to-all : toAll a ≡ true → Untouched r x → Sends a r x op d
   to-one : toAll a ≡ false → Replies a r x op d → Sends a r x op d
+
+-- an error frame: opcode 255 with the outcome's number and the place of the first row that applies, which is a byte
+pub record ErrorFrame (b : Build) (a : Asked) (h : Held) (r : List ℕ) (x : Answer) : Type 0 where
+  pub place : ℕ
+  pub byte : place ≤ 255
+  pub row : First (requestTable b a h (length r)) (x .outcome) place
+  pub frame : Sends a r x errorOpcode (errorData (x .outcome) place)
