@@ -7,4 +7,5 @@ pub mod Lawful
 pub mod Alike
 pub mod Answered
 pub mod Same
+pub mod Upto
 pub mod Places
