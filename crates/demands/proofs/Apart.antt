@@ -19,9 +19,10 @@ use Rattle.store.specs.Fresh.{fresh}
 use Rattle.store.proofs.Laws.{Sound, storing-elsewhere, storing-length}
 use Rattle.store.proofs.Fresh.{length-fresh}
 use Rattle.frame.specs.Address.{address, sameAddress, stationary, forUs}
-use Rattle.frame.specs.Frame.{dataOf, crcRight, sealed, frameOf}
+use Rattle.frame.specs.Frame.{longest, dataOf, crcRight, sealed, frameOf}
+use Rattle.frame.specs.Framing.{whole, directed}
 use Rattle.rules.specs.Asked.{Held}
-use Rattle.rules.specs.Received.{received, longest}
+use Rattle.rules.specs.Received.{received}
 use Rattle.rules.specs.Deeds.{shown, told}
 use Rattle.rules.specs.Entries.{found, next}
 use Rattle.rules.specs.Lists.{ends, fitting, reading}
@@ -52,7 +53,7 @@ shownByte (x ∷ xs) = getD (x .reply) 10 0
 
 -- A name for all that the two requests compute through.
 unfoldable computing : ℕ
-unfolding call run placing part put over value values storing fresh there _>>=_ test from turn turns4 crcByte crcFrom crcOf leap monthDays validDate validClock clockOf sameAddress stationary forUs dataOf crcRight sealed frameOf received shown told found next ends fitting reading counted plan180 opcodeOf plan sent carried admitted answer
+unfolding call run placing part put over value values storing fresh there _>>=_ test from turn turns4 crcByte crcFrom crcOf leap monthDays validDate validClock clockOf sameAddress stationary forUs dataOf crcRight whole directed sealed frameOf received shown told found next ends fitting reading counted plan180 opcodeOf plan sent carried admitted answer
 computing = 0
 
 -- ---- a fresh store, and one with another value

@@ -19,14 +19,17 @@ use Rattle.rules.specs.Asked.{Asked, Held}
 use Rattle.frame.specs.Frame.{dataOf}
 use Rattle.rules.specs.Opcodes.{plan8, Opcode, read7, set8, read10, write11, write166, read167, read180, write181, unserved, plan}
 use Rattle.rules.specs.Answer.{Answer, answer}
-use Rattle.rules.specs.System.{ticking}
-use Rattle.rules.proofs.Answered.{Answered, unheard, refused, acted, answered}
+use Rattle.rules.specs.System.{Passed, ticking}
+use Rattle.rules.proofs.Answered.{Answered, unheard, refused, acted, answered, Moved, moved-on, stopped, moved}
 use Rattle.demands.specs.Brought.{clockLeft, operation}
 use Rattle.demands.proofs.Acted.{keeps}
 
 pub tick-valid : (c : List ℕ) → validClock (clockOf c) ≡ true → validClock (clockOf (ticking c .clock)) ≡ true
-unfolding ticking
-tick-valid c e = rw (e, read-back) (facts-valid _ (later-valid _ (valid-facts _ e)))
+tick-valid c v = go (moved c)
+  where
+    go : {x : Passed} → Moved c x → validClock (clockOf (x .clock)) ≡ true
+    go (moved-on e) = rw read-back (facts-valid _ (later-valid _ (valid-facts _ e)))
+    go (stopped e) = v
 
 -- ---- a clock that is set
 

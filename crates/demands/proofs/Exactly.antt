@@ -2,16 +2,11 @@
 -- Assumes nothing.
 use Prim.Native.Nat.{ℕ}
 use mathlib.Core.Path.{_≡_, refl, sym, _∙_}
-use mathlib.Core.Bool.{Bool, true, false, cond}
 use mathlib.Core.Logic.{inl, inr, _↔_}
-use mathlib.Core.List.{List, [], _∷_}
+use mathlib.Core.List.{List}
 use lib.ListN.{length}
-use lib.Dec.{eqb}
 use Rattle.base.specs.Check.{Check, fault, pass, _>>=_}
-use Rattle.clock.specs.Moments.{validClock, later, clockOf, clockBytes}
 use Rattle.points.specs.Types.{Build}
-use Rattle.points.specs.Place.{storeSize}
-use Rattle.store.specs.Fresh.{fresh}
 use Rattle.frame.specs.Frame.{opcode, dataOf}
 use Rattle.values.specs.Number.{numberRead, readingOf}
 use Rattle.rules.specs.Asked.{Asked, Held}
@@ -19,8 +14,8 @@ use Rattle.rules.specs.Received.{received}
 use Rattle.rules.specs.Opcodes.{opcodeOf}
 use Rattle.rules.specs.Answer.{Answer, planned, answer}
 use Rattle.rules.specs.System.{setting, Left, leaving, systemWrite, fill, Passed, ticking}
-use Rattle.rules.proofs.Answered.{Answered, unheard, refused, acted, answered}
-use Rattle.demands.specs.Table.{Refusal, unless, firstOf, First, Gives}
+use Rattle.rules.proofs.Answered.{Answered, unheard, refused, acted, answered, Filled, filled-up, unfilled, filled, Moved, moved-on, stopped, moved}
+use Rattle.demands.specs.Table.{Refusal, firstOf, First, Gives}
 use Rattle.demands.specs.Tables.{receivedTable, planTable, requestTable, systemTable, fillTable, tickTable, numberTable}
 use Rattle.demands.specs.Outcomes.{outcomeOf}
 use Rattle.demands.proofs.Says.{first-given, given-first, none-given, given-none, join-first, Says, blank}
@@ -93,20 +88,18 @@ number-gives b s t l k =
     check-gives (numberRead b s t l k) _ (number-says b s t l k) (λ c. outcomeOf (readingOf c)) (λ n p. refl) (λ x. refl)
 
 fill-gives : (b : Build) (s : List ℕ) → Gives (fillTable b s) (fill b s .outcome)
-unfolding fill
-fill-gives b s = go (eqb (length s) (storeSize b))
+fill-gives b s = go (filled b s)
   where
-    go : (x : Bool) → Gives (unless x 2 0 ∷ []) (cond {A = Left} x (record { outcome = 0; store = fresh b }) (record { outcome = 2; store = s }) .outcome)
-    go true = inl ((refl, tt), refl)
-    go false = inr (0, inl (refl, refl, refl))
+    go : {x : Left} → Filled b s x → Gives (fillTable b s) (x .outcome)
+    go (filled-up e) = inl ((e, tt), refl)
+    go (unfilled e) = inr (0, inl (e, refl, refl))
 
 tick-gives : (c : List ℕ) → Gives (tickTable c) (ticking c .outcome)
-unfolding ticking
-tick-gives c = go (validClock (clockOf c))
+tick-gives c = go (moved c)
   where
-    go : (x : Bool) → Gives (unless x 3 0 ∷ []) (cond {A = Passed} x (record { outcome = 0; clock = clockBytes (later (clockOf c)) }) (record { outcome = 3; clock = c }) .outcome)
-    go true = inl ((refl, tt), refl)
-    go false = inr (0, inl (refl, refl, refl))
+    go : {x : Passed} → Moved c x → Gives (tickTable c) (x .outcome)
+    go (moved-on e) = inl ((e, tt), refl)
+    go (stopped e) = inr (0, inl (e, refl, refl))
 
 pub system-exactly : (b : Build) (s : List ℕ) (t l k : ℕ) (v : List ℕ) (n : ℕ) → (systemWrite b s t l k v .outcome ≡ n) ↔ Gives (systemTable b s t l k v) n
 system-exactly b s t l k v n = by-table (systemTable b s t l k v) _ n (system-gives b s t l k v)

@@ -3,17 +3,15 @@
 use Prim.Native.Nat.{ℕ, _<_}
 use native.Mathlib.Omega.{arith}
 use mathlib.Core.Path.{_≡_, refl, ap, _∙_, fun-ext}
-use mathlib.Core.Bool.{Bool, true, false, cond}
+use mathlib.Core.Bool.{Bool, true, false}
 use mathlib.Core.List.{List}
 use borrow.Author.Tests.{eqb-true}
-use lib.ListN.{length}
 use lib.Dec.{eqb}
 use Rattle.base.specs.Check.{Check, fault, pass, _>>=_, test}
 use Rattle.base.specs.Lists.{only}
 use Rattle.base.specs.Bytes.{le}
 use Rattle.base.proofs.Below.{below, at-below}
 use Rattle.points.specs.Types.{points, Build, logicals, point, height, row, segments, gateway}
-use Rattle.points.specs.Place.{storeSize}
 use Rattle.store.specs.Store.{value}
 use Rattle.store.specs.Fresh.{defaultOf, fresh}
 use Rattle.store.proofs.Fresh.{value-fresh}
@@ -24,7 +22,7 @@ use Rattle.rules.specs.Asked.{Asked, Held}
 use Rattle.rules.specs.Answer.{Answer, answer}
 use Rattle.rules.specs.System.{Left, systemWrite, fill}
 use Rattle.rules.proofs.InRange.{InRange, stored-in-range}
-use Rattle.rules.proofs.Answered.{Answered, unheard, refused, acted, answered, Written, unset, set-to, written}
+use Rattle.rules.proofs.Answered.{Answered, unheard, refused, acted, answered, Written, unset, set-to, written, Filled, filled-up, unfilled, filled}
 use Rattle.demands.specs.Good.{NoLarger}
 use Rattle.demands.proofs.Planned.{six}
 
@@ -90,9 +88,8 @@ module _ (b : Build) (small : NoLarger b) where
       go false e = refl
 
   pub fill-in-range : (s : List ℕ) → InRange b s → InRange b (fill b s .store)
-  unfolding fill
-  fill-in-range s good = go (eqb (length s) (storeSize b))
+  fill-in-range s good = go (filled b s)
     where
-      go : (x : Bool) → InRange b (cond {A = Left} x (record { outcome = 0; store = fresh b }) (record { outcome = 2; store = s }) .store)
-      go true = fresh-in-range
-      go false = good
+      go : {x : Left} → Filled b s x → InRange b (x .store)
+      go (filled-up e) = fresh-in-range
+      go (unfilled e) = good

@@ -3,13 +3,11 @@
 use Prim.Native.Nat.{ℕ}
 use native.Mathlib.Omega.{arith}
 use mathlib.Core.Path.{_≡_, refl}
-use mathlib.Core.Bool.{Bool, true, false, cond}
+use mathlib.Core.Bool.{true}
 use mathlib.Core.List.{List}
 use borrow.Author.Tests.{eq-eqb}
 use lib.ListN.{length}
-use lib.Dec.{eqb}
 use Rattle.base.specs.Lists.{over}
-use Rattle.clock.specs.Moments.{validClock, later, clockOf, clockBytes}
 use Rattle.points.specs.Types.{Build}
 use Rattle.points.specs.Place.{storeSize}
 use Rattle.store.specs.Fresh.{fresh}
@@ -17,7 +15,7 @@ use Rattle.rules.specs.Asked.{Asked, Held}
 use Rattle.rules.specs.Answer.{Answer, toAll, errorOpcode, errorData, sent, answer}
 use Rattle.rules.specs.System.{Left, systemWrite, fill, Passed, ticking}
 use Rattle.rules.proofs.Places.{place-fits}
-use Rattle.rules.proofs.Answered.{Answered, unheard, refused, acted, answered, Written, unset, set-to, written}
+use Rattle.rules.proofs.Answered.{Answered, unheard, refused, acted, answered, Written, unset, set-to, written, Filled, filled-up, unfilled, filled, Moved, moved-on, stopped, moved}
 use Rattle.demands.specs.Outcomes.{Silent, Told, Untouched, ErrorFrame}
 use Rattle.demands.proofs.Listed.{silent-number, told-number}
 use Rattle.demands.proofs.Exactly.{refused-row}
@@ -81,23 +79,19 @@ system-keeps b s t l k v = go (written b s t l k v)
 
 -- a fill refuses, or leaves the defaults
 pub fill-keeps : (b : Build) (s : List ℕ) → (fill b s .outcome ≡ 0 → ⊥) → fill b s .store ≡ s
-unfolding fill
-fill-keeps b s = go (eqb (length s) (storeSize b))
+fill-keeps b s = go (filled b s)
   where
-    go : (x : Bool) → (cond {A = Left} x (record { outcome = 0; store = fresh b }) (record { outcome = 2; store = s }) .outcome ≡ 0 → ⊥)
-        → cond {A = Left} x (record { outcome = 0; store = fresh b }) (record { outcome = 2; store = s }) .store ≡ s
-    go true n = absurd (n refl)
-    go false n = refl
+    go : {x : Left} → Filled b s x → (x .outcome ≡ 0 → ⊥) → x .store ≡ s
+    go (filled-up e) n = absurd (n refl)
+    go (unfilled e) n = refl
 
 pub fill-fills : (b : Build) (s : List ℕ) → length s ≡ storeSize b → fill b s ≡ record { outcome = 0; store = fresh b }
 unfolding fill
 fill-fills b s e = rw (eq-eqb _ _ e)
 
 pub tick-keeps : (c : List ℕ) → (ticking c .outcome ≡ 0 → ⊥) → ticking c .clock ≡ c
-unfolding ticking
-tick-keeps c = go (validClock (clockOf c))
+tick-keeps c = go (moved c)
   where
-    go : (x : Bool) → (cond {A = Passed} x (record { outcome = 0; clock = clockBytes (later (clockOf c)) }) (record { outcome = 3; clock = c }) .outcome ≡ 0 → ⊥)
-        → cond {A = Passed} x (record { outcome = 0; clock = clockBytes (later (clockOf c)) }) (record { outcome = 3; clock = c }) .clock ≡ c
-    go true n = absurd (n refl)
-    go false n = refl
+    go : {x : Passed} → Moved c x → (x .outcome ≡ 0 → ⊥) → x .clock ≡ c
+    go (moved-on e) n = absurd (n refl)
+    go (stopped e) n = refl

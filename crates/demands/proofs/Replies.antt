@@ -6,26 +6,22 @@ use mathlib.Core.Path.{_≡_, refl, sym, _∙_}
 use mathlib.Core.Bool.{Bool, true, false}
 use mathlib.Core.Logic.{_⊎_, inl, inr}
 use mathlib.Core.List.{List, [], _∷_}
-use lib.ListN.{length, drop, length-append, length-drop}
+use lib.ListN.{length, drop}
 use lib.Seq.{drop-append-seam}
 use Rattle.base.specs.Lists.{over}
+use Rattle.base.proofs.Written.{length-over}
 use Rattle.points.specs.Types.{Build}
 use Rattle.store.proofs.Laws.{stored-length}
 use Rattle.frame.specs.Address.{source}
-use Rattle.frame.specs.Frame.{opcode, sealed, frameOf}
-use Rattle.frame.specs.declared.Address.{Address}
+use Rattle.frame.specs.Frame.{longest, opcode}
+use Rattle.frame.proofs.Written.{length-frame}
 use Rattle.rules.specs.Asked.{Asked, Held}
-use Rattle.rules.specs.Received.{longest}
 use Rattle.rules.specs.Deeds.{told}
 use Rattle.rules.specs.Answer.{Answer, toAll, errorOpcode, sent, answer}
 use Rattle.rules.specs.System.{Left, systemWrite}
 use Rattle.rules.proofs.Told.{told-length}
 use Rattle.rules.proofs.Answered.{Answered, unheard, refused, acted, answered, Written, unset, set-to, written}
 use Rattle.demands.specs.Outcomes.{Untouched, Sends, to-all, to-one}
-
-frame-length : (to us : Address) (op : ℕ) (d : List ℕ) → length (frameOf to us op d) ≡ length d + 8
-unfolding frameOf sealed
-frame-length to us op d = simp length-append (omega arith)
 
 -- what is sent is nothing, or a frame with the data
 sent-length : (a : Asked) (op : ℕ) (d : List ℕ) → length (sent a op d) ≤ length d + 8
@@ -34,11 +30,7 @@ sent-length a op d = go (toAll a) refl
   where
     go : (x : Bool) → toAll a ≡ x → length (sent a op d) ≤ length d + 8
     go true e = rw e (omega arith)
-    go false e = rw e (omega (arith, frame-length (source (a .frame)) (a .us) op d))
-
-over-length : (r f : List ℕ) → length f ≤ length r → length (over r f) ≡ length r
-unfolding over
-over-length r f h = simp (length-append, length-drop) (omega arith)
+    go false e = rw e (omega (arith, length-frame (source (a .frame)) (a .us) op d))
 
 over-behind : (r f : List ℕ) → drop (length f) (over r f) ≡ drop (length f) r
 unfolding over
@@ -51,7 +43,7 @@ sending a r {x} op d ec er = go (toAll a) refl
   where
     go : (y : Bool) → toAll a ≡ y → Sends a r x op d
     go true e = to-all e (ec ∙ rw e, er ∙ rw e)
-    go false e = to-one e (ec ∙ rw e (frame-length (source (a .frame)) (a .us) op d), er ∙ rw e)
+    go false e = to-one e (ec ∙ rw e (length-frame (source (a .frame)) (a .us) op d), er ∙ rw e)
 
 module _ (b : Build) (a : Asked) (h : Held) (r : List ℕ) where
   -- every answer is nothing or one frame, to whoever asked
@@ -80,7 +72,7 @@ module _ (b : Build) (a : Asked) (h : Held) (r : List ℕ) where
           → (length (sent a op d) ≤ longest) × (length (sent a op d) ≤ length r) × (length (over r (sent a op d)) ≡ length r)
       fits op d k room =
           let s = sent-length a op d in
-          (omega arith, omega arith, over-length r (sent a op d) (omega arith))
+          (omega arith, omega arith, length-over r (sent a op d) (omega arith))
 
       go : {x : Answer} → Answered b a h r x → length (h .clock) ≡ 7 → (x .count ≤ longest) × (x .count ≤ length r) × (length (x .reply) ≡ length r)
       go (unheard e) c = (omega arith, omega arith, refl)

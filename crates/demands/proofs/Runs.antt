@@ -1,7 +1,7 @@
 -- Demand 2 over sequences: what is in order stays in order, whatever calls come, and a filled store with a valid clock is.
 -- Assumes nothing.
 use Prim.Native.Nat.{ℕ}
-use mathlib.Core.Path.{_≡_, _∙_}
+use mathlib.Core.Path.{_≡_, refl, _∙_}
 use mathlib.Core.Bool.{true}
 use mathlib.Core.List.{List, [], _∷_}
 use lib.ListN.{length}
@@ -10,7 +10,8 @@ use Rattle.points.specs.Types.{Build}
 use Rattle.store.specs.Fresh.{fresh}
 use Rattle.store.proofs.Fresh.{length-fresh}
 use Rattle.rules.specs.Asked.{Held}
-use Rattle.rules.specs.System.{ticking}
+use Rattle.rules.specs.System.{Passed, ticking}
+use Rattle.rules.proofs.Answered.{Moved, moved-on, stopped, moved}
 use Rattle.demands.specs.Calls.{Call, asks, sets, fills, ticks, call, run}
 use Rattle.demands.specs.Good.{Good, NoLarger}
 use Rattle.demands.proofs.Replies.{store-length, clock-length, system-length}
@@ -18,9 +19,13 @@ use Rattle.demands.proofs.Refused.{fill-fills}
 use Rattle.demands.proofs.Ranges.{stays-in-range, system-in-range, fresh-in-range}
 use Rattle.demands.proofs.Clocks.{clock-valid, tick-valid}
 
-tick-seven : (c : List ℕ) → validClock (clockOf c) ≡ true → length (ticking c .clock) ≡ 7
-unfolding ticking clockBytes
-tick-seven c e = rw e
+tick-seven : (c : List ℕ) → length c ≡ 7 → length (ticking c .clock) ≡ 7
+unfolding clockBytes
+tick-seven c l = go (moved c)
+  where
+    go : {x : Passed} → Moved c x → length (x .clock) ≡ 7
+    go (moved-on e) = refl
+    go (stopped e) = l
 
 module _ (b : Build) (small : NoLarger b) where
   -- a fill makes a whole store so
@@ -45,7 +50,7 @@ module _ (b : Build) (small : NoLarger b) where
       }
   call-good h g fills = rw (fill-fills b (h .store) (g .whole)) (filled-good (h .clock) (g .seven) (g .valid))
   call-good h g ticks =
-      record { whole = g .whole; in-range = g .in-range; seven = tick-seven (h .clock) (g .valid); valid = tick-valid (h .clock) (g .valid) }
+      record { whole = g .whole; in-range = g .in-range; seven = tick-seven (h .clock) (g .seven); valid = tick-valid (h .clock) (g .valid) }
 
   pub run-good : (h : Held) → Good b h → (cs : List Call) → Good b (run b h cs .held)
   unfolding run

@@ -1,12 +1,14 @@
 -- Each call's checks are its table: what a request, a list's entry, a system write and a number read are refused for, in order.
 -- Assumes nothing.
-use Prim.Native.Nat.{ℕ, zero, suc}
+use Prim.Native.Nat.{ℕ, zero, suc, _+_}
 use native.Mathlib.Nat.{add-zero}
 use mathlib.Core.Path.{_≡_, refl, ap}
-use mathlib.Core.Bool.{Bool, true, false}
+use mathlib.Core.Bool.{Bool, true, false, not}
 use mathlib.Core.List.{List, [], _∷_}
-use lib.Dec.{ltb}
+use lib.ListN.{length}
+use lib.Dec.{leb, ltb, eqb}
 use Rattle.base.specs.Check.{fault, pass, _>>=_, test, from}
+use Rattle.base.specs.Lists.{both}
 use Rattle.base.proofs.Checks.{Holds, passing, step}
 use Rattle.points.specs.Types.{Build, Point, logicals, point, height, indexOf}
 use Rattle.points.specs.Place.{placeOf, pick}
@@ -16,6 +18,10 @@ use Rattle.store.specs.Store.{Write}
 use Rattle.points.specs.Row.{Row}
 use Rattle.values.specs.Kinds.{ofKind}
 use Rattle.values.specs.Judged.{inRange, judged}
+use Rattle.frame.specs.Address.{sameAddress, stationary, destination, source, forUs}
+use Rattle.frame.specs.Frame.{longest, dataLength, crcRight}
+use Rattle.frame.specs.Framing.{whole, directed}
+use Rattle.frame.specs.declared.Address.{Address}
 use Rattle.rules.specs.Asked.{Asked, Held}
 use Rattle.rules.specs.Received.{received}
 use Rattle.rules.specs.Deeds.{Piece}
@@ -24,14 +30,24 @@ use Rattle.rules.specs.Lists.{readLevel, writeLevel, ends, fitting, reading, ac
 use Rattle.demands.specs.Table.{unless, firstOf}
 use Rattle.demands.specs.Rows.{typeRow, logicalRow, parameterRow, foundTable, entryTable, nameOf, valueTable, readTable, writeTable}
 use Rattle.demands.specs.Tables.{receivedTable}
-use Rattle.demands.proofs.Says.{Says, blank, say, ask, follow, follow-with, merge, merge-right}
+use Rattle.demands.proofs.Says.{Says, blank, say, ask, follow, follow-with, end, merge, merge-right}
 
 -- ---- outcomes 1 to 8
+
+whole-says : (f : List ℕ)
+    → Says (whole f) (unless (both (leb 8 (length f)) (leb (length f) longest)) 4 0 ∷ unless (eqb (length f) (dataLength f + 8)) 5 0 ∷ unless (crcRight f) 6 0 ∷ [])
+unfolding whole
+whole-says f = merge (ask λ _. ask λ _. ask λ _. ask λ _. say)
+
+directed-says : (us : Address) (f : List ℕ)
+    → Says (directed us f) (unless (forUs us (destination f)) 7 0 ∷ unless (both (stationary (source f)) (not (sameAddress (source f) us))) 8 0 ∷ [])
+unfolding directed
+directed-says us f = ask λ _. merge (ask λ _. ask λ _. say)
 
 pub received-says : (b : Build) (a : Asked) (h : Held) (r : ℕ) → Says (received b a h r) (receivedTable b a h r)
 unfolding received
 received-says b a h r =
-    ask λ _. ask λ _. merge (ask λ _. merge (ask λ _. ask λ _. merge (ask λ _. ask λ _. ask λ _. ask λ _. ask λ _. merge (ask λ _. ask λ _. say))))
+    ask λ _. ask λ _. merge (ask λ _. merge (ask λ _. ask λ _. follow (whole-says (a .frame)) λ _. end (directed-says (a .us) (a .frame)) λ _. say))
 
 -- ---- an entry
 

@@ -13,9 +13,8 @@ use Rattle.points.specs.Place.{lenAt, storeSize}
 use Rattle.store.specs.Store.{Write}
 use Rattle.values.specs.Kinds.{isNumber}
 use Rattle.frame.specs.Address.{sameAddress, stationary, destination, source, forUs}
-use Rattle.frame.specs.Frame.{opcode, dataLength, dataOf, crcRight}
+use Rattle.frame.specs.Frame.{longest, opcode, dataLength, dataOf, crcRight}
 use Rattle.rules.specs.Asked.{Asked, Held}
-use Rattle.rules.specs.Received.{longest}
 use Rattle.rules.specs.Deeds.{plain, held}
 use Rattle.rules.specs.Entries.{Caller, request, block, named, located}
 use Rattle.rules.specs.Opcodes.{lastOf, lastLocation, locations, Opcode, read7, set8, read10, write11, write166, read167, read180, write181, unserved, opcodeOf}

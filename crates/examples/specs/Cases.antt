@@ -10,7 +10,7 @@ use Rattle.base.specs.Lists.{part, put, over, both}
 use Rattle.base.specs.Bytes.{le}
 use Rattle.crc.specs.Crc.{turn, turns4, crcByte, crcFrom, crcOf}
 use Rattle.clock.specs.Calendar.{leap, monthDays, validDate, yearsDays, monthsDays, weekdayOf}
-use Rattle.clock.specs.Moments.{validClock, dayLater, later, weekdayAt, clockOf, clockBytes}
+use Rattle.clock.specs.Moments.{validClock, dayLater, later, tick, weekdayAt, clockOf, clockBytes}
 use Rattle.points.specs.Types.{gateway, indexOf}
 use Rattle.points.specs.Place.{placing}
 use Rattle.points.specs.There.{there}
@@ -20,8 +20,9 @@ use Rattle.values.specs.Kinds.{printed, signedOf, finite32, finite64, validTlp,
 use Rattle.values.specs.Judged.{statusOk, rateOk, sizeOk, inRange, judged}
 use Rattle.values.specs.Pairs.{pairOf, paired, together}
 use Rattle.frame.specs.Address.{address, sameAddress, stationary, forUs}
-use Rattle.frame.specs.Frame.{dataOf, crcRight, sealed, frameOf}
-use Rattle.rules.specs.Received.{received, longest}
+use Rattle.frame.specs.Framing.{whole, directed}
+use Rattle.frame.specs.Frame.{longest, dataOf, crcRight, sealed, frameOf}
+use Rattle.rules.specs.Received.{received}
 use Rattle.rules.specs.Deeds.{shown, told}
 use Rattle.rules.specs.Entries.{found, next}
 use Rattle.rules.specs.Lists.{ends, fitting, reading, accepts, writing}
@@ -83,5 +84,5 @@ wanted (dates c w) = w
 -- A name for all that an example computes through. The definitions themselves have no such line: a proof about a check is to find
 -- `_>>=_` shut.
 unfoldable pub computed : ℕ
-unfolding seen asked placing part put over le value values storing stored fresh there _>>=_ test from turn turns4 crcByte crcFrom crcOf leap monthDays validDate yearsDays monthsDays weekdayOf validClock dayLater later weekdayAt clockOf clockBytes printed signedOf finite32 finite64 validTlp numberTlp ofKind statusOk rateOk sizeOk inRange judged pairOf paired together sameAddress stationary forUs dataOf crcRight sealed frameOf received shown told found next ends fitting reading accepts writing plan7 plan8 spans plan167 plan166 counted plan180 plan181 locates plan10 plan11 opcodeOf plan sent carried admitted answer ticking
+unfolding seen asked placing part put over le value values storing stored fresh there _>>=_ test from turn turns4 crcByte crcFrom crcOf leap monthDays validDate yearsDays monthsDays weekdayOf validClock dayLater later tick weekdayAt clockOf clockBytes printed signedOf finite32 finite64 validTlp numberTlp ofKind statusOk rateOk sizeOk inRange judged pairOf paired together sameAddress stationary forUs dataOf crcRight whole directed sealed frameOf received shown told found next ends fitting reading accepts writing plan7 plan8 spans plan167 plan166 counted plan180 plan181 locates plan10 plan11 opcodeOf plan sent carried admitted answer ticking
 computed = 0

@@ -9,6 +9,10 @@ use Rattle.base.specs.Lists.{part}
 use Rattle.crc.specs.Crc.{crcOf}
 use Rattle.frame.specs.declared.Address.{Address}
 
+-- the most bytes that a frame has: 8 and 255 data bytes
+abbrev pub longest : ℕ
+longest = 263
+
 -- a request's opcode, its n, its data
 abbrev pub opcode : List ℕ → ℕ
 opcode f = getD f 4 0

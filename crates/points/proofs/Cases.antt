@@ -11,8 +11,9 @@ use mir.Syntax.{w64}
 use mir.Val.{Fits}
 use Rattle.base.proofs.Below.{below, at-below}
 use Rattle.points.specs.Types.{indexOf, point, height, logicals, counts, gateway}
-use Rattle.points.specs.Place.{first, base, each, within, lenAt, offset, placeOf, storeSize, areas}
+use Rattle.points.specs.Place.{first, base, each, within, lenAt, offset, placeOf, Here, spotOf}
 use Rattle.points.specs.Columns.{rowAt, beginnings}
+use Rattle.points.specs.declared.Spot.{Spot}
 use Rattle.points.specs.declared.Place.the-variants.{At, NoType, NoLogical, NoParameter}
 use Rattle.points.specs.Sums.{store-bytes}
 use Rattle.points.proofs.Laws.{fits}
@@ -42,33 +43,48 @@ module _ (t l k i n : ℕ) (e : i ≡ indexOf t) (h : i < 6) (en : n ≡ logical
     no-parameter hm = simp (← e, has-some i h, ← en, lt-ltb l n hl, ← em, le-ltb k m hm)
 
     -- past the three tests
-    module _ (hk : k < m) (f : ℕ) (ef : f ≡ first i) where
-      pub in-rows : f + k < 175
-      in-rows = rw ef (row-below i k (rw em at hk))
+    module _ (hk : k < m) where
+      pub here : Here gateway i l k
+      here = record { type = h; logical = rw en at hl; parameter = rw em at hk }
 
-      begins : (x : ℕ) → x ≡ getD beginnings (f + k) 0 → x ≡ within i k
-      begins x ex = ex ∙ rw ef (row-begins i k (rw em at hk))
+      pub is-there : (z : Spot) → z ≡ spotOf gateway i l k → At (z .row) (z .begin) (z .len) ≡ placeOf gateway t l k
+      unfolding placeOf
+      is-there z ez = simp (← e, has-some i h, ← en, lt-ltb l n hl, ← em, lt-ltb k m hk) (rw ez refl)
 
-      module _ (c a : ℕ) (eb : c ≡ base gateway i) (ea : a ≡ each (point i)) where
-        in-store : c + l * a + within i k ≤ 12427
-        unfolding offset
-        in-store = rw (eb, ea) (omega (arith, fits gateway i l k (rw en at hl), store-bytes))
+-- ---- a parameter that the build has
 
-        pub area-fits : Fits w64 (l * a)
-        area-fits = record { fits = omega (arith, in-store) }
+module _ (i l k : ℕ) (w : Here gateway i l k) (f : ℕ) (ef : f ≡ first i) where
+  pub in-rows : f + k < 175
+  in-rows = rw ef (row-below i k (w .parameter))
 
-        pub logical-fits : Fits w64 (c + l * a)
-        logical-fits = record { fits = omega (arith, in-store) }
+  pub row-fits : Fits w64 (f + k)
+  row-fits = record { fits = omega (arith, in-rows) }
 
-        pub begin-fits : (x : ℕ) → x ≡ getD beginnings (f + k) 0 → Fits w64 (c + l * a + x)
-        begin-fits x ex = let y = begins x ex in record { fits = omega (arith, in-store) }
+  begins : (x : ℕ) → x ≡ getD beginnings (f + k) 0 → x ≡ within i k
+  begins x ex = ex ∙ rw ef (row-begins i k (w .parameter))
 
-        pub is-there : (x len : ℕ) → x ≡ getD beginnings (f + k) 0 → len ≡ rowAt (f + k) .len → At (f + k) (c + l * a + x) len ≡ placeOf gateway t l k
-        unfolding placeOf offset
-        is-there x len ex el =
-            simp (← e, has-some i h, ← en, lt-ltb l n hl, ← em, lt-ltb k m hk)
-            (let y : x ≡ within i k = begins x ex in let z : len ≡ lenAt i k = el ∙ rw ef (row-length i k (rw em at hk)) in cc)
+  module _ (c a : ℕ) (eb : c ≡ base gateway i) (ea : a ≡ each (point i)) where
+    in-store : c + l * a + within i k ≤ 12427
+    unfolding offset
+    in-store = rw (eb, ea) (omega (arith, fits gateway i l k (w .logical), store-bytes))
 
-pub ruleset placeOf·cases = (no-type, no-logical, no-parameter, is-there)
+    pub area-fits : Fits w64 (l * a)
+    area-fits = record { fits = omega (arith, in-store) }
 
-pub ruleset placeOf·bounds = (in-rows, area-fits, logical-fits, begin-fits)
+    pub logical-fits : Fits w64 (c + l * a)
+    logical-fits = record { fits = omega (arith, in-store) }
+
+    pub begin-fits : (x : ℕ) → x ≡ getD beginnings (f + k) 0 → Fits w64 (c + l * a + x)
+    begin-fits x ex = let y = begins x ex in record { fits = omega (arith, in-store) }
+
+    pub is-spot : (x n : ℕ) → x ≡ getD beginnings (f + k) 0 → n ≡ rowAt (f + k) .len
+        → record { row = f + k; begin = c + l * a + x; len = n } ≡ spotOf gateway i l k
+    unfolding offset
+    is-spot x n ex en =
+        let y : x ≡ within i k = begins x ex in
+        let z : n ≡ lenAt i k = en ∙ rw ef (row-length i k (w .parameter)) in
+        cc
+
+pub ruleset placeOf·cases = (no-type, no-logical, no-parameter, is-there, here)
+
+pub ruleset spot·cases = (in-rows, row-fits, area-fits, logical-fits, begin-fits, is-spot)

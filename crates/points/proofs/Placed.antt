@@ -2,25 +2,15 @@
 -- Assumes nothing.
 use mathlib.Core.Path.{_≡_, refl}
 use mathlib.Core.Bool.{Bool, true, false}
-use mathlib.Core.List.{map}
 use Prim.Native.Nat.{ℕ, _+_, _≤_, _<_}
 use native.Mathlib.Omega.{arith}
 use borrow.Author.Tests.{ltb-true}
 use lib.Dec.{ltb}
-use lib.ListN.{List·getD-map}
-use Rattle.base.proofs.Below.{entry-small}
-use Rattle.points.specs.Row.{noRow}
 use Rattle.points.specs.Types.{indexOf, point, height, Build, logicals}
-use Rattle.points.specs.Place.{first, offset, lenAt, pick, placeOf, rowLen, storeSize}
-use Rattle.points.specs.Columns.{rowAt, allRows}
+use Rattle.points.specs.Place.{first, offset, lenAt, pick, placeOf, storeSize}
 use Rattle.points.specs.declared.Place.the-variants.{At, NoType, NoLogical, NoParameter}
 use Rattle.points.proofs.Laws.{fits}
-use Rattle.points.proofs.Rows.{row-below, row-length}
-
--- no value is longer than 40 bytes: one test over the rows
-row-short : (r : ℕ) → rowAt r .len ≤ 40
-unfolding rowAt
-row-short r = rw (← List·getD-map rowLen allRows r noRow) (entry-small 40 (map rowLen allRows) refl r)
+use Rattle.points.proofs.Rows.{row-below, len-small}
 
 pub record Placed (b : Build) (t l k r a n : ℕ) : Type 0 where
   pub row : r ≡ first (indexOf t) + k
@@ -50,7 +40,7 @@ module _ (b : Build) (t l k r a n : ℕ) where
         parameter = hk;
         below = rw er (row-below (indexOf t) k hk);
         within-store = rw (ea, en) (fits b (indexOf t) l k hl);
-        short = rw (en, ← row-length (indexOf t) k hk) (row-short (first (indexOf t) + k));
+        short = rw en (len-small (indexOf t) k);
       }
   by-tests true true false ey ez e = let z : _≡_ {A = ℕ} 0 1 = cc in absurd (omega arith)
   by-tests true false z ey ez e = let z : _≡_ {A = ℕ} 0 1 = cc in absurd (omega arith)

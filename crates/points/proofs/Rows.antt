@@ -2,11 +2,15 @@
 -- Assumes nothing.
 use mathlib.Core.Path.{_≡_, refl, sym, ap, _∙_}
 use mathlib.Core.List.{List, [], _∷_, map}
-use Prim.Native.Nat.{ℕ, zero, suc, _+_, _<_}
+use mathlib.Core.Bool.{Bool, true, false}
+use Prim.Native.Nat.{ℕ, zero, suc, _+_, _≤_, _<_, zero-le}
 use native.Mathlib.Nat.{zero-add, add-zero, add-assoc, not-suc-le-zero, le-of-suc-le-suc}
 use native.Mathlib.Omega.{arith}
-use lib.ListN.{length, getD, take, replicate, List·getD-map, length-map}
+use borrow.Author.Tests.{ltb-true, ltb-false}
+use lib.Dec.{ltb}
+use lib.ListN.{length, getD, take, replicate, List·getD-map, List·getD-eq-default, length-map}
 use Rattle.base.specs.Lists.{sum, joined}
+use Rattle.base.proofs.Below.{at-below, small, entry-small}
 use Rattle.base.proofs.Sums.{inside}
 use Rattle.base.proofs.Joined.{joined-at}
 use Rattle.points.specs.Row.{Row, noRow}
@@ -78,3 +82,14 @@ row-reads i k h = column-at readsOf refl (λ p. length-replicate (height p) (p .
 pub row-writes : (i k : ℕ) → k < height (point i) → getD writeLevels (first i + k) 0 ≡ point i .writes
 unfolding writeLevels
 row-writes i k h = column-at writesOf refl (λ p. length-replicate (height p) (p .writes)) i k h ∙ replicate-at _ _ k h
+
+-- no value is longer than 40 bytes: one test over the types
+pub len-small : (i k : ℕ) → lenAt i k ≤ 40
+unfolding lenAt point points
+len-small i k = go (ltb i 6) refl
+  where
+    go : (b : Bool) → ltb i 6 ≡ b → getD (lens (point i)) k 0 ≤ 40
+    go true e = entry-small 40 (lens (point i)) (at-below 6 (λ j. small 40 (lens (point j))) refl i (ltb-true i 6 e)) k
+    go false e =
+        let z : point i ≡ noPoint = List·getD-eq-default points noPoint (ltb-false i 6 e) in
+        rw z zero-le

@@ -4,7 +4,7 @@ use Prim.Native.Nat.{ℕ, _+_, _-_, _^_}
 use mathlib.Core.List.{List, [], _∷_, map}
 use lib.ListN.{length, getD, replicate}
 use Rattle.base.specs.Lists.{joined}
-use Rattle.points.specs.Row.{Row, Kind, text, unsigned, signed, single, double, tlp, Access, readWrite, readOnly, readOnlyFirst, Range, any, between, status, rate, size, number, noRow}
+use Rattle.points.specs.Row.{Row, Kind, text, unsigned, signed, single, double, tlp, Access, readWrite, readOnly, readOnlyFirst, Range, any, between, status, rate, size, number, Default, figure, words, softPoint, segment, fullFirst, noRow}
 use Rattle.points.specs.Types.{Point, points, height}
 use Rattle.points.specs.Place.{lens}
 
@@ -112,3 +112,24 @@ startsOf p = starts 0 (lens p)
 unfoldable pub beginnings : List ℕ
 unfolding points
 beginnings = joined (map startsOf points)
+
+-- what a fill leaves: the number that stands for its form, and the number that it is where it is one
+abbrev pub defaultCode : Default → ℕ
+defaultCode (figure x) = 0
+defaultCode (words w) = 1
+defaultCode softPoint = 2
+defaultCode segment = 3
+defaultCode fullFirst = 4
+
+abbrev pub figureOf : Default → ℕ
+figureOf (figure x) = x
+figureOf (words w) = 0
+figureOf softPoint = 0
+figureOf segment = 0
+figureOf fullFirst = 0
+
+abbrev pub rowDefault : Row → ℕ
+rowDefault r = defaultCode (r .default)
+
+abbrev pub rowFigure : Row → ℕ
+rowFigure r = figureOf (r .default)

@@ -1,6 +1,6 @@
 -- Where a parameter lies in the store: types ascending, logicals ascending, parameters ascending, unpadded.
 -- Assumes nothing.
-use Prim.Native.Nat.{ℕ, _+_, _*_}
+use Prim.Native.Nat.{ℕ, _+_, _*_, _<_}
 use mathlib.Core.Bool.{Bool, true, false}
 use mathlib.Core.List.{List, map}
 use lib.ListN.{length, getD, take}
@@ -8,6 +8,7 @@ use lib.Dec.{ltb}
 use Rattle.base.specs.Lists.{sum, zipped}
 use Rattle.points.specs.Row.{Row}
 use Rattle.points.specs.Types.{Point, points, point, height, indexOf, Build, counts, logicals, gateway, row}
+use Rattle.points.specs.declared.Spot.{Spot}
 use Rattle.points.specs.declared.Place.{Place}
 use Rattle.points.specs.declared.Place.the-variants.{At, NoType, NoLogical, NoParameter}
 
@@ -52,6 +53,16 @@ offset b i l k = base b i + l * each (point i) + within i k
 unfoldable pub first : ℕ → ℕ
 unfolding points
 first i = sum (take i (map height points))
+
+-- a parameter that the build has
+pub record Here (b : Build) (i l k : ℕ) : Type 0 where
+  pub type : i < 6
+  pub logical : l < logicals b i
+  pub parameter : k < height (point i)
+
+-- its row, where it begins, how long it is
+abbrev pub spotOf : Build → ℕ → ℕ → ℕ → Spot
+spotOf b i l k = record { row = first i + k; begin = offset b i l k; len = lenAt i k }
 
 abbrev pub pick : Bool → Place → Place → Place
 pick true p q = p

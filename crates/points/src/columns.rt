@@ -1,6 +1,8 @@
 // The constant tables: a column each, by row. Those of the types stand here, by a type's index.
 pub mod access;
 pub mod beginnings;
+pub mod defaults;
+pub mod figures;
 pub mod kinds;
 pub mod leasts;
 pub mod lengths;

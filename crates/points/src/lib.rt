@@ -5,8 +5,8 @@ ghost use mathlib.Core.Path.{_≡_};
 ghost use Prim.Native.Nat.{_+_, _<_, _≤_};
 ghost use lib.ListN.{getD};
 ghost use Rattle.points.specs.Types.{indexOf, point, height, logicals, gateway};
-ghost use Rattle.points.specs.Place.{first, base, each, placeOf};
-ghost use Rattle.points.specs.Columns.{rowAt, rowKind, rowAccess, rowRange, rowLeast, rowMost, readLevels, writeLevels, beginnings};
+ghost use Rattle.points.specs.Place.{first, base, each, placeOf, Here, spotOf};
+ghost use Rattle.points.specs.Columns.{rowAt, rowKind, rowAccess, rowRange, rowLeast, rowMost, rowDefault, rowFigure, readLevels, writeLevels, beginnings};
 
 // A point type, a logical, a parameter and a count are four kinds of number.
 pub struct PointType(pub u8);
@@ -23,6 +23,13 @@ pub enum Place {
     NoType,
     NoLogical,
     NoParameter,
+}
+
+// A parameter of the build, past all doubt: its row, where it begins in the store, how many bytes it has.
+pub struct Spot {
+    pub row: usize,
+    pub begin: usize,
+    pub len: usize,
 }
 
 // The columns by row.
@@ -68,6 +75,20 @@ pub fn most_at(row: usize) -> u32
     columns::mosts::MOSTS[row]
 }
 
+pub fn default_at(row: usize) -> u8
+    requires { ⌜ row < 175 ⌝ }
+    ensures { λ r. ⌜ r ≡ rowDefault (rowAt row) ⌝ }
+{
+    columns::defaults::DEFAULTS[row]
+}
+
+pub fn figure_at(row: usize) -> u32
+    requires { ⌜ row < 175 ⌝ }
+    ensures { λ r. ⌜ r ≡ rowFigure (rowAt row) ⌝ }
+{
+    columns::figures::FIGURES[row]
+}
+
 pub fn read_level_at(row: usize) -> u8
     requires { ⌜ row < 175 ⌝ }
     ensures { λ r. ⌜ r ≡ getD readLevels row 0 ⌝ }
@@ -90,21 +111,21 @@ fn beginning_at(row: usize) -> u16
 }
 
 // The columns by type.
-fn logicals_of(i: usize) -> u8
+pub fn logicals_of(i: usize) -> u8
     requires { ⌜ i < 6 ⌝ }
     ensures { λ r. ⌜ r ≡ logicals gateway i ⌝ }
 {
     columns::LOGICALS[i]
 }
 
-fn height_of(i: usize) -> u8
+pub fn height_of(i: usize) -> u8
     requires { ⌜ i < 6 ⌝ }
     ensures { λ r. ⌜ r ≡ height (point i) ⌝ }
 {
     columns::HEIGHTS[i]
 }
 
-fn first_of(i: usize) -> u8
+pub fn first_of(i: usize) -> u8
     requires { ⌜ i < 6 ⌝ }
     ensures { λ r. ⌜ r ≡ first i ⌝ }
 {
@@ -126,7 +147,7 @@ fn each_of(i: usize) -> u16
 }
 
 // The index of a point type; 6 where it is none.
-fn index_of(t: PointType) -> usize
+pub fn index_of(t: PointType) -> usize
     ensures { λ r. ⌜ r ≡ indexOf (t .0) ⌝ }
 {
     let n = t.0;
@@ -138,6 +159,20 @@ fn index_of(t: PointType) -> usize
         123 => 4,
         124 => 5,
         _ => 6,
+    }
+}
+
+// Parameter k of logical l of the i-th type.
+pub fn spot_at(i: usize, l: u8, k: usize) -> Spot
+    requires { ⌜ Here gateway i l k ⌝ }
+    ensures { λ r. ⌜ r ≡ spotOf gateway i l k ⌝ }
+{
+    let row = first_of(i) as usize + k;
+    let logical = base_of(i) as usize + l as usize * each_of(i) as usize;
+    Spot {
+        row,
+        begin: logical + beginning_at(row) as usize,
+        len: length_at(row) as usize,
     }
 }
 
@@ -156,11 +191,6 @@ pub fn locate(t: PointType, l: Logical, p: Parameter) -> Place
     if height_of(i) <= k {
         return Place::NoParameter;
     }
-    let row = first_of(i) as usize + k as usize;
-    let logical = base_of(i) as usize + m as usize * each_of(i) as usize;
-    Place::At(
-        row,
-        logical + beginning_at(row) as usize,
-        length_at(row) as usize,
-    )
+    let s = spot_at(i, m, k as usize);
+    Place::At(s.row, s.begin, s.len)
 }

@@ -10,7 +10,7 @@ pub record Asked : Type 0 where
   pub us : Address
   pub level : ℕ
 
--- the store and the clock's seven bytes
+-- the store's bytes and the clock's, which are seven
 pub record Held : Type 0 where
   pub store : List ℕ
   pub clock : List ℕ

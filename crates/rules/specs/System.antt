@@ -7,7 +7,8 @@ use mathlib.Core.List.{List, []}
 use lib.ListN.{length}
 use lib.Dec.{eqb}
 use Rattle.base.specs.Check.{Check, fault, pass, _>>=_, test}
-use Rattle.clock.specs.Moments.{validClock, later, clockOf, clockBytes}
+use Rattle.clock.specs.Moments.{clockOf, clockBytes, tick}
+use Rattle.clock.specs.declared.Ticked.{Ticked}
 use Rattle.points.specs.Types.{Build, indexOf}
 use Rattle.points.specs.Place.{placeOf, lenAt, storeSize}
 use Rattle.points.specs.There.{there}
@@ -47,4 +48,5 @@ pub record Passed : Type 0 where
 
 unfoldable pub ticking : List ℕ → Passed
 ticking c =
-    cond (validClock (clockOf c)) (record { outcome = 0; clock = clockBytes (later (clockOf c)) }) (record { outcome = 3; clock = c })
+    let t : Ticked = tick (clockOf c) in
+    record { outcome = t .outcome; clock = cond (eqb (t .outcome) 0) (clockBytes (t .clock)) c }

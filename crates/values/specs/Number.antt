@@ -38,3 +38,33 @@ numberRead b s t l k = do
 unfoldable pub readingOf : Check Number → Reading
 readingOf (fault n p) = Refused n
 readingOf (pass x) = Got x
+
+-- ---- the same for C: 0 unsigned, 1 signed, 2 single, 3 double, and the value's bits as they are stored
+
+pub record Raw : Type 0 where
+  pub kind : ℕ
+  pub bits : ℕ
+
+unfoldable pub raw : Kind → List ℕ → Check Raw
+raw text v = fault 27 0
+raw unsigned v = pass (record { kind = 0; bits = le v })
+raw signed v = pass (record { kind = 1; bits = le v })
+raw single v = pass (record { kind = 2; bits = le v })
+raw double v = pass (record { kind = 3; bits = le v })
+raw tlp v = fault 27 0
+
+unfoldable pub rawRead : Build → List ℕ → ℕ → ℕ → ℕ → Check Raw
+rawRead b s t l k = do
+  _ ← test (eqb (length s) (storeSize b)) 2 0
+  _ ← there (placeOf b t l k) 0 0 0
+  raw (row (indexOf t) k .kind) (value b s (indexOf t) l k)
+
+-- what the call leaves: the outcome, and kind and bits, which a refusal leaves as they were
+pub record Told : Type 0 where
+  pub outcome : ℕ
+  pub kind : ℕ
+  pub bits : ℕ
+
+unfoldable pub telling : ℕ → ℕ → Check Raw → Told
+telling k n (fault o p) = record { outcome = o; kind = k; bits = n }
+telling k n (pass x) = record { outcome = 0; kind = x .kind; bits = x .bits }

@@ -1,0 +1,29 @@
+-- `values::signed` meets its contract.
+-- Assumes nothing.
+use native.Mathlib.Omega.{arith}
+use Rattle.values.proofs.Signs.{high-fits, high-is, low-is}
+use borrow.Author.Needs.{needs}
+use Rattle.values.proofs.signed.Statement.{statement}
+use Rattle.values.proofs.signed.Tie as tie
+
+cast-result : tie.Need-cast-result
+cast-result c = search needs
+
+sub-result : tie.Need-sub-result
+sub-result c = search needs
+
+cast-result-2 : tie.Need-cast-result-2
+cast-result-2 c = search needs
+
+sub-result-2 : tie.Need-sub-result-2
+sub-result-2 c = high-fits (c .before .args .b) (omega arith) (omega arith)
+
+returns : tie.Need-returns
+returns c = low-is _ (omega arith)
+
+returns-2 : tie.Need-returns-2
+returns-2 c = high-is _ (omega arith) (omega arith)
+
+pub signed-spec : {M : Type 1} → statement M
+signed-spec =
+    tie.close (tie.spec cast-result sub-result cast-result-2 sub-result-2 returns returns-2)
