@@ -19,7 +19,7 @@ use Rattle.rules.specs.Answer.{Answer, planned, answer}
 use Rattle.rules.proofs.Answered.{Answered, unheard, refused, acted, answered}
 use Rattle.demands.specs.Brought.{valuesIn, brought, valuesOf, replied, clockLeft, operation, ActedOn}
 use Rattle.demands.proofs.Tabled.{next-names}
-use Rattle.demands.proofs.Listed.{silent-number, told-number}
+use Rattle.demands.proofs.Listed.{silent-number, faulted-number}
 use Rattle.demands.proofs.Replies.{sending}
 
 -- ---- the two walks
@@ -89,7 +89,7 @@ acts b a h r = go (answered b a h r)
   where
     go : {x : Answer} → Answered b a h r x → x .outcome ≡ 0 → ActedOn b a h r x
     go (unheard e) z = let s = silent-number b a h (length r) _ _ e in absurd (omega arith)
-    go (refused k e) z = let t = told-number b a h _ _ e in absurd (omega arith)
+    go (refused k e) z = let t = faulted-number b a h _ _ e in absurd (omega arith)
     go (acted {d} k e l) z =
         let q = kept-by b a h e in
         record { store = ap (stored b (h .store)) (q .puts); clock = q .clock; reply = sending a r _ _ (rw (q .tells)) (rw (q .tells)) }

@@ -8,7 +8,7 @@ use lib.ListN.{length}
 use Rattle.base.specs.Check.{Check, fault, pass, _>>=_}
 use Rattle.points.specs.Types.{Build}
 use Rattle.frame.specs.Frame.{opcode, dataOf}
-use Rattle.values.specs.Number.{numberRead, readingOf}
+use Rattle.values.specs.Number.{numberRead, readingOf, rawRead, telling}
 use Rattle.rules.specs.Asked.{Asked, Held}
 use Rattle.rules.specs.Received.{received}
 use Rattle.rules.specs.Opcodes.{opcodeOf}
@@ -17,11 +17,11 @@ use Rattle.rules.specs.System.{setting, Left, leaving, systemWrite, fill, Passe
 use Rattle.rules.proofs.Answered.{Answered, unheard, refused, acted, answered, Filled, filled-up, unfilled, filled, Moved, moved-on, stopped, moved}
 use Rattle.demands.specs.Table.{Refusal, firstOf, First, Gives}
 use Rattle.demands.specs.Tables.{receivedTable, planTable, requestTable, systemTable, fillTable, tickTable, numberTable}
-use Rattle.demands.specs.Outcomes.{outcomeOf}
+use Rattle.demands.specs.Outcomes.{readingOutcome}
 use Rattle.demands.proofs.Says.{first-given, given-first, none-given, given-none, join-first, Says, blank}
 use Rattle.demands.proofs.Tabled.{received-says}
 use Rattle.demands.proofs.Planned.{plan-says}
-use Rattle.demands.proofs.Unframed.{setting-says, number-says}
+use Rattle.demands.proofs.Unframed.{setting-says, number-says, raw-says}
 
 -- ---- a table gives one number
 
@@ -82,10 +82,15 @@ unfolding systemWrite leaving
 system-gives b s t l k v =
     check-gives (setting b s t l k v) _ (setting-says b s t l k v) (λ c. leaving b s c .outcome) (λ n p. refl) (λ ws. refl)
 
-number-gives : (b : Build) (s : List ℕ) (t l k : ℕ) → Gives (numberTable b s t l k) (outcomeOf (readingOf (numberRead b s t l k)))
+number-gives : (b : Build) (s : List ℕ) (t l k : ℕ) → Gives (numberTable b s t l k) (readingOutcome (readingOf (numberRead b s t l k)))
 unfolding readingOf
 number-gives b s t l k =
-    check-gives (numberRead b s t l k) _ (number-says b s t l k) (λ c. outcomeOf (readingOf c)) (λ n p. refl) (λ x. refl)
+    check-gives (numberRead b s t l k) _ (number-says b s t l k) (λ c. readingOutcome (readingOf c)) (λ n p. refl) (λ x. refl)
+
+raw-gives : (b : Build) (s : List ℕ) (t l k kind bits : ℕ) → Gives (numberTable b s t l k) (telling kind bits (rawRead b s t l k) .outcome)
+unfolding telling
+raw-gives b s t l k kind bits =
+    check-gives (rawRead b s t l k) _ (raw-says b s t l k) (λ c. telling kind bits c .outcome) (λ n p. refl) (λ x. refl)
 
 fill-gives : (b : Build) (s : List ℕ) → Gives (fillTable b s) (fill b s .outcome)
 fill-gives b s = go (filled b s)
@@ -104,8 +109,11 @@ tick-gives c = go (moved c)
 pub system-exactly : (b : Build) (s : List ℕ) (t l k : ℕ) (v : List ℕ) (n : ℕ) → (systemWrite b s t l k v .outcome ≡ n) ↔ Gives (systemTable b s t l k v) n
 system-exactly b s t l k v n = by-table (systemTable b s t l k v) _ n (system-gives b s t l k v)
 
-pub number-exactly : (b : Build) (s : List ℕ) (t l k n : ℕ) → (outcomeOf (readingOf (numberRead b s t l k)) ≡ n) ↔ Gives (numberTable b s t l k) n
+pub number-exactly : (b : Build) (s : List ℕ) (t l k n : ℕ) → (readingOutcome (readingOf (numberRead b s t l k)) ≡ n) ↔ Gives (numberTable b s t l k) n
 number-exactly b s t l k n = by-table (numberTable b s t l k) _ n (number-gives b s t l k)
+
+pub raw-exactly : (b : Build) (s : List ℕ) (t l k kind bits n : ℕ) → (telling kind bits (rawRead b s t l k) .outcome ≡ n) ↔ Gives (numberTable b s t l k) n
+raw-exactly b s t l k kind bits n = by-table (numberTable b s t l k) _ n (raw-gives b s t l k kind bits)
 
 pub fill-exactly : (b : Build) (s : List ℕ) (n : ℕ) → (fill b s .outcome ≡ n) ↔ Gives (fillTable b s) n
 fill-exactly b s n = by-table (fillTable b s) _ n (fill-gives b s)

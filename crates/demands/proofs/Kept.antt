@@ -19,7 +19,7 @@ use Rattle.rules.specs.Answer.{Answer, answer}
 use Rattle.rules.proofs.Walks.{Allowed}
 use Rattle.rules.proofs.Answered.{Answered, unheard, refused, acted, answered}
 use Rattle.demands.specs.Brought.{brought, Unnamed, operation}
-use Rattle.demands.proofs.Listed.{silent-number, told-number}
+use Rattle.demands.proofs.Listed.{silent-number, faulted-number}
 use Rattle.demands.proofs.Acted.{brings}
 
 module _ (b : Build) (a : Asked) (h : Held) (r : List ℕ) (i l k : ℕ) (hl : l < logicals b i) where
@@ -40,7 +40,7 @@ module _ (b : Build) (a : Asked) (h : Held) (r : List ℕ) (i l k : ℕ) (hl : l
     where
       go : {x : Answer} → Answered b a h r x → x .outcome ≡ 0 → value b (x .store) i l k ≡ w .bytes
       go (unheard e) z = let s = silent-number b a h (length r) _ _ e in absurd (omega arith)
-      go (refused q e) z = let t = told-number b a h _ _ e in absurd (omega arith)
+      go (refused q e) z = let t = faulted-number b a h _ _ e in absurd (omega arith)
       go (acted {d} q e o) z =
           let f : d .puts ≡ later ++ w ∷ ws = brings b a h e ∙ split in
           rw f (stored-there b (h .store) (q .whole) later w ws i l k hl (rw f at (o .puts .sound)) n ne)

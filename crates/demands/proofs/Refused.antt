@@ -7,17 +7,19 @@ use mathlib.Core.Bool.{true}
 use mathlib.Core.List.{List}
 use borrow.Author.Tests.{eq-eqb}
 use lib.ListN.{length}
+use Rattle.base.specs.Check.{Check, fault, pass}
 use Rattle.base.specs.Lists.{over}
 use Rattle.points.specs.Types.{Build}
 use Rattle.points.specs.Place.{storeSize}
 use Rattle.store.specs.Fresh.{fresh}
+use Rattle.values.specs.Number.{Raw, rawRead, telling}
 use Rattle.rules.specs.Asked.{Asked, Held}
 use Rattle.rules.specs.Answer.{Answer, toAll, errorOpcode, errorData, sent, answer}
 use Rattle.rules.specs.System.{Left, systemWrite, fill, Passed, ticking}
 use Rattle.rules.proofs.Places.{place-fits}
 use Rattle.rules.proofs.Answered.{Answered, unheard, refused, acted, answered, Written, unset, set-to, written, Filled, filled-up, unfilled, filled, Moved, moved-on, stopped, moved}
-use Rattle.demands.specs.Outcomes.{Silent, Told, Untouched, ErrorFrame}
-use Rattle.demands.proofs.Listed.{silent-number, told-number}
+use Rattle.demands.specs.Outcomes.{Silent, Faulted, Untouched, ErrorFrame}
+use Rattle.demands.proofs.Listed.{silent-number, faulted-number}
 use Rattle.demands.proofs.Exactly.{refused-row}
 use Rattle.demands.proofs.Replies.{sending}
 
@@ -37,7 +39,7 @@ module _ (b : Build) (a : Asked) (h : Held) (r : List ℕ) where
     where
       go : {x : Answer} → Answered b a h r x → Silent (x .outcome) → Untouched r x
       go (unheard e) n = (refl, refl)
-      go (refused k e) n = let t = told-number b a h _ _ e in absurd (omega arith)
+      go (refused k e) n = let t = faulted-number b a h _ _ e in absurd (omega arith)
       go (acted k e l) n = absurd (omega arith)
 
   -- a broadcast is never answered
@@ -54,10 +56,10 @@ module _ (b : Build) (a : Asked) (h : Held) (r : List ℕ) where
       go (acted k e l) t = nothing _ _ t
 
   -- outcomes 20 to 31 reply with an error frame
-  pub error-frame : Told (answer b a h r .outcome) → ErrorFrame b a h r (answer b a h r)
+  pub error-frame : Faulted (answer b a h r .outcome) → ErrorFrame b a h r (answer b a h r)
   error-frame = go (answered b a h r)
     where
-      go : {x : Answer} → Answered b a h r x → Told (x .outcome) → ErrorFrame b a h r x
+      go : {x : Answer} → Answered b a h r x → Faulted (x .outcome) → ErrorFrame b a h r x
       go (unheard e) t = let s = silent-number b a h (length r) _ _ e in absurd (omega arith)
       go (refused {n} {p} k e) t =
           record {
@@ -95,3 +97,13 @@ tick-keeps c = go (moved c)
     go : {x : Passed} → Moved c x → (x .outcome ≡ 0 → ⊥) → x .clock ≡ c
     go (moved-on e) n = absurd (n refl)
     go (stopped e) n = refl
+
+-- a number read changes nothing, and a refusal leaves kind and bits as they were
+pub raw-keeps : (b : Build) (s : List ℕ) (t l k kind bits : ℕ) → (telling kind bits (rawRead b s t l k) .outcome ≡ 0 → ⊥)
+    → (telling kind bits (rawRead b s t l k) .kind ≡ kind) × (telling kind bits (rawRead b s t l k) .bits ≡ bits)
+unfolding telling
+raw-keeps b s t l k kind bits = go (rawRead b s t l k)
+  where
+    go : (c : Check Raw) → (telling kind bits c .outcome ≡ 0 → ⊥) → (telling kind bits c .kind ≡ kind) × (telling kind bits c .bits ≡ bits)
+    go (fault n p) h = (refl, refl)
+    go (pass x) h = absurd (h refl)

@@ -1,4 +1,4 @@
--- The checks of the calls that no frame reaches are their tables: system write, number read.
+-- The checks of the calls that no frame reaches are their tables: system write, and the number read in both its forms.
 -- Assumes nothing.
 use Prim.Native.Nat.{ℕ}
 use native.Mathlib.Omega.{arith}
@@ -13,7 +13,7 @@ use Rattle.points.specs.Row.{Kind, text, unsigned, signed, single, double, tlp}
 use Rattle.points.specs.Types.{Build, indexOf}
 use Rattle.points.specs.Place.{lenAt}
 use Rattle.values.specs.Kinds.{isNumber}
-use Rattle.values.specs.Number.{said, numberRead}
+use Rattle.values.specs.Number.{said, numberRead, raw, rawRead}
 use Rattle.rules.specs.Entries.{system, block}
 use Rattle.rules.specs.Lists.{writing}
 use Rattle.rules.specs.System.{setting}
@@ -50,3 +50,17 @@ said-says tlp v = record { says = refl }
 pub number-says : (b : Build) (s : List ℕ) (t l k : ℕ) → Says (numberRead b s t l k) (numberTable b s t l k)
 unfolding numberRead
 number-says b s t l k = ask λ _. follow (there-says b t l k 0 0 0) λ _. said-says _ _
+
+-- the same for C
+raw-said : (kind : Kind) (v : List ℕ) → Says (raw kind v) (unless (isNumber kind) 27 0 ∷ [])
+unfolding raw blank firstOf
+raw-said text v = record { says = refl }
+raw-said unsigned v = record { says = refl }
+raw-said signed v = record { says = refl }
+raw-said single v = record { says = refl }
+raw-said double v = record { says = refl }
+raw-said tlp v = record { says = refl }
+
+pub raw-says : (b : Build) (s : List ℕ) (t l k : ℕ) → Says (rawRead b s t l k) (numberTable b s t l k)
+unfolding rawRead
+raw-says b s t l k = ask λ _. follow (there-says b t l k 0 0 0) λ _. raw-said _ _

@@ -3,8 +3,11 @@
 use Prim.Native.Nat.{ℕ}
 use mathlib.Core.Path.{_≡_, sym, _∙_}
 use mathlib.Core.List.{List}
+use Rattle.clock.specs.Moments.{tick}
+use Rattle.clock.specs.declared.Clock.{Clock}
+use Rattle.clock.specs.declared.Ticked.{Ticked}
 use Rattle.points.specs.Types.{Build}
-use Rattle.values.specs.Number.{numberRead, readingOf}
+use Rattle.values.specs.Number.{numberRead, readingOf, rawRead, Told, telling}
 use Rattle.values.specs.declared.Reading.{Reading}
 use Rattle.rules.specs.Asked.{Asked, Held}
 use Rattle.rules.specs.Answer.{Answer, answer}
@@ -27,3 +30,9 @@ tick-unique c x y = unique
 
 pub number-unique : (b : Build) (s : List ℕ) (t l k : ℕ) (x y : Reading) → x ≡ readingOf (numberRead b s t l k) → y ≡ readingOf (numberRead b s t l k) → x ≡ y
 number-unique b s t l k x y = unique
+
+pub raw-unique : (b : Build) (s : List ℕ) (t l k kind bits : ℕ) (x y : Told) → x ≡ telling kind bits (rawRead b s t l k) → y ≡ telling kind bits (rawRead b s t l k) → x ≡ y
+raw-unique b s t l k kind bits x y = unique
+
+pub moment-unique : (c : Clock) (x y : Ticked) → x ≡ tick c → y ≡ tick c → x ≡ y
+moment-unique c x y = unique

@@ -22,12 +22,12 @@ abbrev pub Silent : ℕ → Type 0
 Silent n = (1 ≤ n) × (n ≤ 8)
 
 -- 20 to 31 reply with an error frame
-abbrev pub Told : ℕ → Type 0
-Told n = (20 ≤ n) × (n ≤ 31)
+abbrev pub Faulted : ℕ → Type 0
+Faulted n = (20 ≤ n) × (n ≤ 31)
 
 -- the outcomes of a request
 abbrev pub Listed : ℕ → Type 0
-Listed n = (n ≡ 0) ⊎ (Silent n ⊎ Told n)
+Listed n = (n ≡ 0) ⊎ (Silent n ⊎ Faulted n)
 
 -- one of some numbers
 abbrev pub Among : List ℕ → ℕ → Type 0
@@ -35,9 +35,9 @@ Among [] n = ⊥
 Among (x ∷ xs) n = (n ≡ x) ⊎ Among xs n
 
 -- the outcome of a number read
-abbrev pub outcomeOf : Reading → ℕ
-outcomeOf (Got x) = 0
-outcomeOf (Refused n) = n
+abbrev pub readingOutcome : Reading → ℕ
+readingOutcome (Got x) = 0
+readingOutcome (Refused n) = n
 
 -- ---- the reply space, as r before
 
