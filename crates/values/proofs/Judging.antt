@@ -1,6 +1,6 @@
 -- The cases of the judging of a value by its row: by the kind's code, and for a number by the range's.
 -- Assumes nothing.
-use mathlib.Core.Path.{_≡_, refl, sym, ap, _∙_}
+use mathlib.Core.Path.{_≡_, refl, sym, _∙_}
 use mathlib.Core.Bool.{Bool, true, false, cond, false≢true}
 use mathlib.Core.List.{List}
 use Prim.Native.Nat.{ℕ, _+_, _-_, _^_, _≤_, _<_}
@@ -8,18 +8,18 @@ use native.Mathlib.Omega.{arith}
 use lib.Dec.{eqb, leb}
 use lib.ListN.{length, getD}
 use borrow.Author.Tests.{le-leb}
-use Rattle.base.specs.Check.{Check, fault, pass, _>>=_, test}
+use Rattle.base.specs.Check.{pass, _>>=_, test}
 use Rattle.base.specs.Bytes.{le}
 use Rattle.base.specs.Lists.{part, both, either}
 use Rattle.base.proofs.Numbers.{le-one}
 use Rattle.base.proofs.Tests.{both-true}
 use Rattle.points.specs.Row.{Row, Kind, text, unsigned, signed, single, double, tlp, Range, any, between, status, rate, size, number}
 use Rattle.points.specs.Types.{gateway}
-use Rattle.points.specs.Columns.{rowAt, rowKind, rowRange, rowLeast, rowMost, kindCode, rangeCode, leastOf, mostOf, mostBy}
-use Rattle.values.specs.Kinds.{finite32, finite64, validTlp, numberTlp, ofKind, nothing, names, isNumber}
+use Rattle.points.specs.Columns.{rowAt, rowKind, rowRange, rowLeast, rowMost, kindCode, rangeCode, leastOf, mostOf}
+use Rattle.values.specs.Kinds.{finite32, finite64, validTlp, numberTlp, ofKind, nothing, names}
 use Rattle.values.specs.Judged.{statusOk, rateOk, sizeOk, inRange, judged}
-use Rattle.values.specs.Weighable.{Standing, passes, whole}
-use Rattle.values.proofs.Table.{rooms, plain, ranged, row-ranged, kind-is, unsigned-long, signed-long, single-long, double-long, tlp-long}
+use Rattle.values.specs.Weighable.{Standing, passes}
+use Rattle.values.proofs.Table.{rooms, plain, ranged, row-ranged, kind-is, signed-long, single-long, double-long, tlp-long}
 
 -- ---- an unsigned number, by its range
 
@@ -81,7 +81,7 @@ passes-both true true = refl
 passes-both true false = refl
 passes-both false y = refl
 
-pub judged-both : (r : Row) (l : ℕ) (v : List ℕ) → both (ofKind gateway (r .kind) v) (inRange gateway (r .range) l v) ≡ passes (judged gateway r l v)
+judged-both : (r : Row) (l : ℕ) (v : List ℕ) → both (ofKind gateway (r .kind) v) (inRange gateway (r .range) l v) ≡ passes (judged gateway r l v)
 unfolding judged
 judged-both r l v = passes-both (ofKind gateway (r .kind) v) (inRange gateway (r .range) l v)
 
@@ -121,7 +121,8 @@ module _ (l : ℕ) (v : List ℕ) where
   as-tlp number t = narrower (nothing v) (names gateway v) _
 
 -- the kind that is left
-the-last : (k : Kind) → (kindCode k ≡ 0 → ⊥) → (kindCode k ≡ 1 → ⊥) → (kindCode k ≡ 2 → ⊥) → (kindCode k ≡ 3 → ⊥) → (kindCode k ≡ 4 → ⊥) → kindCode k ≡ 5
+the-last : (k : Kind) → (kindCode k ≡ 0 → ⊥) → (kindCode k ≡ 1 → ⊥) → (kindCode k ≡ 2 → ⊥) → (kindCode k ≡ 3 → ⊥)
+    → (kindCode k ≡ 4 → ⊥) → kindCode k ≡ 5
 the-last text o a b c d = absurd (o refl)
 the-last unsigned o a b c d = absurd (a refl)
 the-last signed o a b c d = absurd (b refl)

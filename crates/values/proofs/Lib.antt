@@ -1,3 +1,4 @@
+pub mod Paired
 pub mod Signs
 pub mod Nans
 pub mod Ranges

@@ -1,19 +1,19 @@
 -- The cases of the pairs of type 124, by the mate that the code looks up.
 -- Assumes nothing.
-use mathlib.Core.Path.{_≡_, refl, sym, ap, _∙_}
-use mathlib.Core.Bool.{Bool, true, false, cond}
+use mathlib.Core.Path.{_≡_, refl}
+use mathlib.Core.Bool.{Bool, true, cond}
 use mathlib.Core.List.{List}
 use Prim.Native.Nat.{ℕ, zero, suc, _+_, _-_, _≤_, _<_}
 use native.Mathlib.Decide.{ℕ-discrete}
 use native.Mathlib.Omega.{arith}
 use lib.Dec.{eqb, leb, ltb}
-use lib.ListN.{length, getD}
+use lib.ListN.{length}
 use borrow.Author.Tests.{eq-eqb, ne-eqb, eqb-true, lt-ltb, le-ltb, ltb-true, le-leb, lt-leb}
 use Rattle.base.specs.Bytes.{le}
-use Rattle.base.specs.Lists.{part, both, either}
+use Rattle.base.specs.Lists.{part, both}
 use Rattle.base.proofs.Below.{both-left, both-right}
-use Rattle.points.specs.Types.{gateway, segments, logicals, point, height}
-use Rattle.points.specs.Place.{first, offset, lenAt, storeSize, spotOf}
+use Rattle.points.specs.Types.{gateway, segments, point, height}
+use Rattle.points.specs.Place.{first, lenAt, spotOf}
 use Rattle.points.specs.Columns.{rowAt}
 use Rattle.points.specs.declared.Spot.{Spot}
 use Rattle.points.proofs.Laws.{fits}
@@ -21,7 +21,7 @@ use Rattle.store.specs.Store.{value}
 use Rattle.values.specs.Pairs.{pairOf, paired, under}
 use Rattle.values.specs.Weighed.{changed, mated}
 use Rattle.values.specs.Weighable.{Weighable, Mating, mateOf, inStep}
-use Rattle.values.proofs.Table.{mates, row-mates}
+use Rattle.values.proofs.Table.{row-mates}
 
 module _ (k l count index : ℕ) where
   pub step-first : k ≡ 1 → l ≡ 0 → eqb l 0 ≡ inStep k l count index

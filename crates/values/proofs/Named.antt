@@ -1,17 +1,16 @@
 -- The cases of the TLPs that a value may be, by what the code finds of the place.
 -- Assumes nothing.
-use mathlib.Core.Path.{_≡_, refl, sym, ap, _∙_}
+use mathlib.Core.Path.{_≡_, refl, sym, _∙_}
 use mathlib.Core.Bool.{Bool, true, false, cond}
 use mathlib.Core.List.{List, [], _∷_}
 use Prim.Native.Nat.{ℕ, _+_, _≤_, _<_}
-use native.Mathlib.Omega.{arith}
 use lib.Dec.{eqb, leb}
 use lib.ListN.{length, getD}
 use borrow.Author.Tests.{eq-eqb, ne-eqb, le-leb, lt-leb}
 use Rattle.base.specs.Lists.{both, part}
-use Rattle.points.specs.Row.{Row, Kind, text, unsigned, signed, single, double, tlp}
+use Rattle.points.specs.Row.{Kind, text, unsigned, signed, single, double, tlp}
 use Rattle.points.specs.Types.{gateway, indexOf, row}
-use Rattle.points.specs.Place.{placeOf, first}
+use Rattle.points.specs.Place.{placeOf}
 use Rattle.points.specs.Columns.{rowAt, rowKind, kindCode}
 use Rattle.points.specs.declared.Place.{Place}
 use Rattle.points.specs.declared.Place.the-variants.{At, NoType, NoLogical, NoParameter}

@@ -1,7 +1,6 @@
 -- The cases of the readings of a parameter as a number: its bits by its kind, and from the bits what each reading answers.
 -- Assumes nothing.
-use mathlib.Core.Path.{_≡_, refl, sym, ap, _∙_}
-use mathlib.Core.Bool.{Bool, true, false}
+use mathlib.Core.Path.{_≡_, refl, ap, _∙_}
 use mathlib.Core.List.{List}
 use Prim.Native.Nat.{ℕ, _+_, _≤_, _<_}
 use native.Mathlib.Omega.{arith}
@@ -22,15 +21,13 @@ use Rattle.points.specs.Columns.{rowAt, rowKind, kindCode}
 use Rattle.points.specs.Sums.{store-bytes}
 use Rattle.points.specs.declared.Place.{Place}
 use Rattle.points.specs.declared.Place.the-variants.{At, NoType, NoLogical, NoParameter}
-use Rattle.points.proofs.Placed.{Placed}
 use Rattle.points.proofs.Rows.{row-len}
 use Rattle.store.specs.Store.{value}
 use Rattle.values.specs.Kinds.{signedOf}
-use Rattle.values.specs.Number.{said, numberRead, readingOf, Raw, raw, rawRead, Told, telling}
+use Rattle.values.specs.Number.{said, numberRead, readingOf, raw, rawRead, Told, telling}
 use Rattle.values.specs.Bits.{bitsOf, bitsRead, bitsIn}
 use Rattle.values.specs.declared.Bits.{Bits}
 use Rattle.values.specs.declared.Bits.the-variants.{OfUnsigned, OfSigned, OfSingle, OfDouble, No}
-use Rattle.values.specs.declared.Number.{Number}
 use Rattle.values.specs.declared.Number.the-variants.{Unsigned, Signed, Single, Double}
 use Rattle.values.specs.declared.Reading.{Reading}
 use Rattle.values.specs.declared.Reading.the-variants.{Got, Refused}
@@ -39,7 +36,8 @@ use Rattle.values.proofs.Table.{rooms, kind-is, signed-long, single-lon
 
 -- ---- the bits by the kind's code
 
-no-number : (k : Kind) (v : List ℕ) → (kindCode k ≡ 1 → ⊥) → (kindCode k ≡ 2 → ⊥) → (kindCode k ≡ 3 → ⊥) → (kindCode k ≡ 4 → ⊥) → No 27 ≡ bitsOf k v
+no-number : (k : Kind) (v : List ℕ) → (kindCode k ≡ 1 → ⊥) → (kindCode k ≡ 2 → ⊥) → (kindCode k ≡ 3 → ⊥)
+    → (kindCode k ≡ 4 → ⊥) → No 27 ≡ bitsOf k v
 unfolding bitsOf
 no-number text v a b c d = refl
 no-number unsigned v a b c d = absurd (a refl)

@@ -7,14 +7,14 @@ use Prim.Native.Nat.{ℕ, _+_, _-_, _≤_, _<_}
 use native.Mathlib.Omega.{arith}
 use lib.Dec.{eqb, leb, ltb}
 use lib.ListN.{length, getD}
-use borrow.Author.Tests.{eqb-true, ltb-true, le-leb, ne-eqb}
+use borrow.Author.Tests.{eqb-true, le-leb}
 use Rattle.base.specs.Lists.{both, either, only}
-use Rattle.base.proofs.Below.{below, at-below, both-left, both-right}
-use Rattle.points.specs.Row.{Row, Kind, text, unsigned, signed, single, double, tlp, Range, any, between, status, rate, size, number}
+use Rattle.base.proofs.Below.{at-below, both-left, both-right}
+use Rattle.points.specs.Row.{Kind, text, unsigned, signed, single, double, tlp, Range, any, between, status, rate, size, number}
 use Rattle.points.specs.Types.{segments, point, height}
 use Rattle.points.specs.Place.{lenAt}
 use Rattle.points.specs.Columns.{rowAt, rowKind, kindCode, rangeCode}
-use Rattle.values.specs.Weighable.{whole, mateOf}
+use Rattle.values.specs.Weighable.{unsignedLong, mateOf}
 
 -- ---- the one test
 
@@ -28,7 +28,7 @@ plain number = false
 
 abbrev long : Kind → ℕ → Bool
 long text n = true
-long unsigned n = whole n
+long unsigned n = unsignedLong n
 long signed n = eqb n 1
 long single n = eqb n 4
 long double n = eqb n 8
@@ -52,7 +52,7 @@ regular r =
     both (long (rowAt r .kind) (rowAt r .len)) (both (ranged (rowAt r .kind) (rowAt r .range)) (only (leb 161 r) (mates (r - 161) (rowAt r .len))))
 
 all-regular : (r : ℕ) → r < 175 → regular r ≡ true
-unfolding rowAt whole mateOf point lenAt
+unfolding rowAt unsignedLong mateOf point lenAt
 all-regular r h = at-below 175 regular refl r h
 
 module _ (r : ℕ) (h : r < 175) where
@@ -85,7 +85,7 @@ module _ (r : ℕ) (h : r < 175) (c : ℕ) (e : c ≡ rowKind (rowAt r)) where
   pub kind-is : (n : ℕ) → c ≡ n → rowAt r .kind ≡ kindOf n
   kind-is n f = sym (decoded (rowAt r .kind)) ∙ ap kindOf (sym e ∙ f)
 
-  pub unsigned-long : c ≡ 1 → whole (rowAt r .len) ≡ true
+  pub unsigned-long : c ≡ 1 → unsignedLong (rowAt r .len) ≡ true
   unsigned-long f = rw (kind-is 1 f) at (row-long r h)
 
   pub signed-long : c ≡ 2 → rowAt r .len ≡ 1
@@ -117,10 +117,10 @@ module _ (r n : ℕ) (e : n ≡ rowAt r .len) where
   pub room-long : (d : List ℕ) (a : ℕ) → a + rowAt r .len ≤ length d → a + n ≤ length d
   room-long d a room = rw e room
 
-  pub whole-long : (h : r < 175) (c : ℕ) → c ≡ rowKind (rowAt r) → c ≡ 1 → whole n ≡ true
-  whole-long h c f g = rw e (unsigned-long r h c f g)
+  pub room-unsigned : (h : r < 175) (c : ℕ) → c ≡ rowKind (rowAt r) → c ≡ 1 → unsignedLong n ≡ true
+  room-unsigned h c f g = rw e (unsigned-long r h c f g)
 
-  pub whole-number : (h : r < 175) → rowKind (rowAt r) ≡ 1 → whole n ≡ true
-  whole-number h f = whole-long h _ refl f
+  pub room-number : (h : r < 175) → rowKind (rowAt r) ≡ 1 → unsignedLong n ≡ true
+  room-number h f = room-unsigned h _ refl f
 
-pub ruleset rooms = (room-signed, room-single, room-double, room-long, whole-long, whole-number)
+pub ruleset rooms = (room-signed, room-single, room-double, room-long, room-unsigned, room-number)

@@ -4,7 +4,7 @@ use mathlib.Core.Path.{_≡_, refl}
 use mathlib.Core.Bool.{Bool, true, false, cond}
 use mathlib.Core.List.{List}
 use Prim.Native.Nat.{ℕ}
-use Rattle.base.specs.Check.{Check, fault, pass, _>>=_, test}
+use Rattle.base.specs.Check.{Check, pass, _>>=_, test}
 use Rattle.points.specs.Types.{gateway}
 use Rattle.points.specs.Columns.{rowAt}
 use Rattle.values.specs.Kinds.{ofKind}

@@ -1,6 +1,6 @@
 -- What both readings of a number start from: the bits of a parameter as they are stored, by its kind, or the outcome that refuses them.
 -- Assumes nothing.
-use Prim.Native.Nat.{ℕ, _+_, _≤_, _<_}
+use Prim.Native.Nat.{ℕ}
 use mathlib.Core.List.{List}
 use lib.ListN.{length}
 use lib.Dec.{eqb}

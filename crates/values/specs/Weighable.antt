@@ -38,9 +38,9 @@ unfoldable pub passes : Check Unit → Bool
 passes (fault n p) = false
 passes (pass x) = true
 
--- how many bytes an unsigned number has
-unfoldable pub whole : ℕ → Bool
-whole n = either (eqb n 1) (either (eqb n 2) (eqb n 4))
+-- an unsigned value has 1, 2 or 4 bytes
+unfoldable pub unsignedLong : ℕ → Bool
+unsignedLong n = either (eqb n 1) (either (eqb n 2) (eqb n 4))
 
 -- the other parameter of its pair, and 0 where a parameter has none
 unfoldable pub mateOf : ℕ → ℕ

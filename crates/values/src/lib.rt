@@ -1,8 +1,8 @@
 // What a value may be, and what it says as a number.
 mod pairs;
-mod readings;
+pub mod readings;
 mod tlps;
-mod weighing;
+pub mod weighing;
 
 pub use readings::number_read;
 pub use readings::raw_read;

@@ -1,11 +1,9 @@
 // The pairs of type 124: size (1) and configured points (12), periodic entries and index (3, 5), daily entries and index (4, 6).
 ghost use mathlib.Core.Path.{_≡_};
-ghost use Prim.Native.Nat.{_+_, _≤_, _<_};
-ghost use lib.ListN.{length};
+ghost use Prim.Native.Nat.{_<_};
 ghost use Rattle.base.specs.Bytes.{le};
 ghost use Rattle.base.specs.Lists.{part};
-ghost use Rattle.points.specs.Types.{gateway, logicals, segments};
-ghost use Rattle.points.specs.Place.{storeSize};
+ghost use Rattle.points.specs.Types.{gateway, segments};
 ghost use Rattle.points.specs.Columns.{rowAt};
 ghost use Rattle.store.specs.Store.{value};
 ghost use Rattle.values.specs.Weighed.{mated};

@@ -9,7 +9,7 @@ ghost use Rattle.points.specs.Types.{gateway};
 ghost use Rattle.points.specs.Columns.{rowAt};
 ghost use Rattle.values.specs.Number.{numberRead, readingOf, rawRead, telling};
 ghost use Rattle.values.specs.Bits.{bitsOf, bitsRead, bitsIn};
-ghost use Rattle.values.specs.Weighable.{whole};
+ghost use Rattle.values.specs.Weighable.{unsignedLong};
 use crate::Bits;
 use crate::Number;
 use crate::Reading;
@@ -23,9 +23,9 @@ use points::PointType;
 
 const STORE_SIZE: usize = 12_427;
 
-// An unsigned number of 1, 2 or 4 bytes.
+// The bound is what a range without ends of its own allows.
 pub fn unsigned_at(s: &[u8], at: usize, n: u8) -> u32
-    requires { ⌜ (whole n ≡ true) × (at + n ≤ length (now s)) ⌝ }
+    requires { ⌜ (unsignedLong n ≡ true) × (at + n ≤ length (now s)) ⌝ }
     ensures { λ r. ⌜ (r ≡ le (part (now (s .entry)) at n)) × (r < 256 ^ n) ⌝ }
 {
     if n == 1 {
@@ -37,7 +37,7 @@ pub fn unsigned_at(s: &[u8], at: usize, n: u8) -> u32
     base::long_at(s, at)
 }
 
-// Text and TLP are no numbers.
+// Outcome 27: text and TLP are no numbers.
 fn bits_at(s: &[u8], row: usize, at: usize) -> Bits
     requires { ⌜ (row < 175) × (at + rowAt row .len ≤ length (now s)) ⌝ }
     ensures { λ r. ⌜ r ≡ bitsOf (rowAt row .kind) (part (now (s .entry)) at (rowAt row .len)) ⌝ }
@@ -52,6 +52,7 @@ fn bits_at(s: &[u8], row: usize, at: usize) -> Bits
     }
 }
 
+// Outcomes 2, 22, 23, 24 and 27, in that order.
 fn held(store: &[u8], t: PointType, l: Logical, p: Parameter) -> Bits
     ensures { λ r. ⌜ r ≡ bitsIn (bitsRead gateway (now (store .entry)) (t .0) (l .0) (p .0)) ⌝ }
 {

@@ -17,7 +17,7 @@ use crate::status_ok;
 use crate::tlps::tlp_at;
 use crate::within;
 
-// The codes of the ranges that are no stretch from a least to a most.
+// An unsigned value. The sample rates and the sizes are no stretch from a least to a most.
 fn number_ok(row: usize, l: u8, data: &[u8], at: usize) -> bool
     requires { ⌜ Standing row (now «data») at × (rowKind (rowAt row) ≡ 1) ⌝ }
     ensures { λ r. ⌜ r ≡ inRange gateway (rowAt row .range) l (part (now («data» .entry)) at (rowAt row .len)) ⌝ }

@@ -2,7 +2,7 @@
 -- Assumes nothing.
 use borrow.Author.Needs.{needs}
 use native.Mathlib.Omega.{arith}
-use Rattle.values.proofs.Widths.{of-one, of-two, of-four, whole·cases}
+use Rattle.values.proofs.Widths.{of-one, of-two, of-four, room-four}
 use Rattle.values.proofs.readings.unsigned_at.Statement.{statement}
 use Rattle.values.proofs.readings.unsigned_at.Tie as tie
 
@@ -25,7 +25,7 @@ returns-2 : tie.Need-returns-2
 returns-2 c = of-two _ _ _ _ (omega arith) (c .word-at .ensures) (omega arith)
 
 long-at-requires : tie.Need-long-at-requires
-long-at-requires c κs = search (needs, whole·cases)
+long-at-requires c κs = search (needs, room-four)
 
 returns-3 : tie.Need-returns-3
 returns-3 c = of-four _ _ _ (c .before .before .before .before .pre .0) (omega arith) (omega arith) _ (c .long-at .ensures) (omega arith)

@@ -1,0 +1,7 @@
+// The eight opcodes: each checks its request's data and then does what it asks.
+
+// What an opcode comes to: how many data bytes of a reply it told, or the fault.
+pub enum Done {
+    Said(usize),
+    Fault(u8, u8),
+}
