@@ -49,7 +49,7 @@ module _ (b : Build) (a : Asked) (h : Held) (r : List ℕ) where
   parts = join-first (receivedTable b a h (length r)) _ ∙ rw (← plan-table, ← received-says b a h (length r) .says)
 
   -- the place of the row that refuses
-  pub unheard-row : {n p : ℕ} → received b a h (length r) ≡ fault n p → First table n p
+  unheard-row : {n p : ℕ} → received b a h (length r) ≡ fault n p → First table n p
   unfolding blank _>>=_
   unheard-row e = given-first table (parts ∙ rw e)
 
