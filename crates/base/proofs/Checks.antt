@@ -35,6 +35,16 @@ unfolding _>>=_
 step-with faulty h = faulty
 step-with (passing q) h = h _ q
 
+-- what is known anyway holds of what passes
+pub anyway : {A P : Type 0} → P → (c : Check A) → Holds (λ _. P) c
+anyway q (fault n p) = faulty
+anyway q (pass a) = passing q
+
+-- what follows from what is known holds too
+pub holds-map : {A : Type 0} {c : Check A} {P Q : A → Type 0} → Holds P c → ((a : A) → P a → Q a) → Holds Q c
+holds-map faulty h = faulty
+holds-map (passing p) h = passing (h _ p)
+
 -- two that go on from the same check, of which something is known
 pub hold-same : {A B : Type 0} {c : Check A} {f g : A → Check B} {Q : A → Type 0} → Holds Q c → ((a : A) → Q a → f a ≡ g a) → (c >>= f) ≡ (c >>= g)
 unfolding _>>=_

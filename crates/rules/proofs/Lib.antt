@@ -1,0 +1,11 @@
+pub mod Agree
+pub mod Told
+pub mod InRange
+pub mod Found
+pub mod Walks
+pub mod Lawful
+pub mod Alike
+pub mod Answered
+pub mod Same
+pub mod Upto
+pub mod Places
