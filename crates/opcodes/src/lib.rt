@@ -1,6 +1,7 @@
 // The eight opcodes: each checks its request's data and then does what it asks.
 pub mod blocks;
 pub mod named;
+pub mod tables;
 mod walks;
 
 // What an opcode comes to: how many data bytes of a reply it told, or the fault.
