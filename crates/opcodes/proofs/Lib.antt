@@ -1,3 +1,4 @@
 pub mod Carried
 pub mod Plans
 pub mod Spanned
+pub mod Located

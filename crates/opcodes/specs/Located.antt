@@ -22,6 +22,7 @@ pub record Placeable (t k c : ℕ) (s bs : List ℕ) : Type 0 where
   pub whole-store : length s ≡ storeSize gateway
   pub table : t < logicals gateway tables
   pub first : 1 ≤ k
+  pub some : 1 ≤ c
   pub last : k + c ≤ height (point tables)
   pub room : 3 * c ≤ length bs
 
