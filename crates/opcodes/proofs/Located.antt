@@ -218,9 +218,9 @@ module _ (t k c : ℕ) (s bs : List ℕ) (a : Placeable t k c s bs) where
         let n : length v ≡ 3 * c′ = length-part s (p .begin) (3 * c′) (place-room .1) in
         let j : 0 + length v ≤ length bs = let o = place-room .0 in omega arith in
         let m : v ≡ values gateway s tables t k c =
-            ap (λ (b : ℕ). part s b (3 * c′)) begins
-            ∙ ap (part s (offset gateway tables t k)) (ap (λ (b : ℕ). 3 * b) ec ∙ sym spanned)
-            ∙ sym (values-part gateway s tables t k c (a .last))
+        ap (λ (b : ℕ). part s b (3 * c′)) begins
+        ∙ ap (part s (offset gateway tables t k)) (ap (λ (b : ℕ). 3 * b) ec ∙ sym spanned)
+        ∙ sym (values-part gateway s tables t k c (a .last))
         in
         record {
           long = ap (λ (b : ℕ). 3 * b) ec;

@@ -84,7 +84,15 @@ pub fn write(level: u8, d: &[u8], store: &mut [u8]) -> Done
         Table::Of(t, start, count) => {
             let mut places = [0u8; 132];
             let n = place(t, start, count, &store[..], &mut places[..]);
-            walks::write(Source::Located, base::wide(count), 3, level, d, &places[..n], store)
+            walks::write(
+                Source::Located,
+                base::wide(count),
+                3,
+                level,
+                d,
+                &places[..n],
+                store,
+            )
         }
     }
 }

@@ -8,7 +8,15 @@ use lists::Caller;
 use lists::Checked;
 use lists::Source;
 
-pub fn read(src: Source, level: u8, d: &[u8], locations: &[u8], store: &[u8], aloud: bool, reply: &mut [u8]) -> Done
+pub fn read(
+    src: Source,
+    level: u8,
+    d: &[u8],
+    locations: &[u8],
+    store: &[u8],
+    aloud: bool,
+    reply: &mut [u8],
+) -> Done
     requires { ⌜ Listable src (now d) (now locations) (now store) (now reply) ⌝ }
     ensures { λ r. ⌜ (r ≡ readDone (listed (request level) src (now (d .entry)) (now (locations .entry))))
         × (now (reply .exit) ≡ readSpace aloud (now (store .entry)) (now (reply .entry)) (listed (request level) src (now (d .entry)) (now (locations .entry)))) ⌝ }
@@ -30,7 +38,15 @@ pub fn read(src: Source, level: u8, d: &[u8], locations: &[u8], store: &[u8], al
     }
 }
 
-pub fn write(src: Source, count: usize, from: usize, level: u8, d: &[u8], locations: &[u8], store: &mut [u8]) -> Done
+pub fn write(
+    src: Source,
+    count: usize,
+    from: usize,
+    level: u8,
+    d: &[u8],
+    locations: &[u8],
+    store: &mut [u8],
+) -> Done
     requires { ⌜ Storable src count from (now d) (now locations) (now store) ⌝ }
     ensures { λ r. ⌜ (r ≡ writeDone (whole level src count from (now (d .entry)) (now (locations .entry)) (now (store .entry))))
         × (now (store .exit) ≡ writeStore (now (store .entry)) (whole level src count from (now (d .entry)) (now (locations .entry)) (now (store .entry)))) ⌝ }

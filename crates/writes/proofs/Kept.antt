@@ -97,8 +97,13 @@ module _ (who : rules.Caller) (s : List ℕ) (src : Source) (count from : ℕ) (
 
         pub in-store : y .begin + y .len ≤ length s
         in-store =
-            omega (arith, begin, len, able .writable .whole,
-              fits gateway (Q .type) (Q .logical) (Q .parameter) (it-stands who s src count from d bs (able .writable) e at more i x ex y f n en .logical))
+            omega (
+              arith,
+              begin,
+              len,
+              able .writable .whole,
+              fits gateway (Q .type) (Q .logical) (Q .parameter) (it-stands who s src count from d bs (able .writable) e at more i x ex y f n en .logical),
+            )
 
         pub keeps-more : (r₁ : List ℕ) → r₁ ≡ put r (y .begin) (part d (at + n) (y .len)) → Keeping who s src count from d bs r₁ (e + 1) (at + n + y .len)
         unfolding stored storing part

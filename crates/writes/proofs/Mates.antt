@@ -93,9 +93,11 @@ no-pair-same l g g′ = refl
 
 unnamed : (L l q : ℕ) (ws : List Write) → shut (row segments q .access) ≡ true → All (Free (request L)) ws → All (λ w. Names w segments l q → ⊥) ws
 unnamed L l q [] h f = tt
-unnamed L l q (w ∷ ws) h f =
-    ((λ n. never (lockedAt (row segments q .access) l) (is-locked (row segments q .access) l h)
-    (rw (← n .0, ← n .1, ← n .2) (f .0))), unnamed L l q ws h (f .1))
+unnamed L l q (w ∷ ws) h f = (
+  (λ n. never (lockedAt (row segments q .access) l) (is-locked (row segments q .access) l h)
+      (rw (← n .0, ← n .1, ← n .2) (f .0))),
+  unnamed L l q ws h (f .1),
+)
 
 module _ (s : List ℕ) (whole : length s ≡ storeSize gateway) (ws : List Write) (sound : All (Sound gateway) ws) (l : ℕ) (hl : l < logicals gateway segments) where
   mate-kept : (who : rules.Caller) (k q : ℕ) → k < 14 → mayWrite who (row segments k .access) l ≡ true → Earlier who ws

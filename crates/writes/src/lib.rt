@@ -64,7 +64,15 @@ fn faulted(next: Next) -> Checked
 }
 
 // Every entry in turn: found, read-only, short, range; then spare bytes. Checking stops at the first fault found.
-pub fn check(src: Source, count: usize, from: usize, who: Caller, d: &[u8], locations: &[u8], store: &[u8]) -> Checked
+pub fn check(
+    src: Source,
+    count: usize,
+    from: usize,
+    who: Caller,
+    d: &[u8],
+    locations: &[u8],
+    store: &[u8],
+) -> Checked
     requires { ⌜ Writable (callerOf who) src count from (now d) (now locations) (now store) ⌝ }
     ensures { λ r. ⌜ r ≡ checkedOf (writing gateway (callerOf who) (now (store .entry)) (sourceAt src 0 (now (locations .entry))) count (drop from (now (d .entry))) from []) ⌝ }
 {
@@ -110,7 +118,15 @@ pub fn check(src: Source, count: usize, from: usize, who: Caller, d: &[u8], loca
 }
 
 // Every value of a list that passed its check, stored.
-pub fn keep(src: Source, count: usize, from: usize, who: Caller, d: &[u8], locations: &[u8], store: &mut [u8])
+pub fn keep(
+    src: Source,
+    count: usize,
+    from: usize,
+    who: Caller,
+    d: &[u8],
+    locations: &[u8],
+    store: &mut [u8],
+)
     requires { ⌜ Keepable (callerOf who) src count from (now d) (now locations) (now store) ⌝ }
     ensures { λ _. ⌜ now (store .exit) ≡ stored gateway (now (store .entry)) (writesOf (writing gateway (callerOf who) (now (store .entry)) (sourceAt src 0 (now (locations .entry))) count (drop from (now (d .entry))) from [])) ⌝ }
 {

@@ -1,7 +1,7 @@
 -- `opcodes::tables::locate` meets its contract, by the cases of its check.
 -- Assumes nothing.
 use borrow.Author.Needs.{needs}
-use Rattle.opcodes.proofs.Located.{locate·cases}
+use Rattle.opcodes.proofs.Located.{locate-there, locate·cases}
 use Rattle.opcodes.proofs.tables.locate.Statement.{statement}
 use Rattle.opcodes.proofs.tables.locate.Tie as tie
 
@@ -54,7 +54,10 @@ shared-slice-read-t16 : tie.Need-shared-slice-read-t16
 shared-slice-read-t16 c = search needs
 
 returns-7 : tie.Need-returns-7
-returns-7 c = search (needs, locate·cases)
+returns-7 c =
+    locate-there _ (c .before .before .before .before .before .before .before .before .before .before .before .before .before .if1 .left) (c .before .before .before .before .before .before .before .before .before .before .before .if2 .left) _ (c .before .before .before .before .before .before .before .before .before .wide .ensures .0)
+    (c .before .before .before .before .before .before .before .before .if3 .left) (c .before .before .before .before .before .before .before .if4 .left) _ (c .before .before .before .before .before .wide2 .ensures .0)
+    (c .before .before .before .before .if5 .left) (c .before .before .before .if6 .left)
 
 pub locate-spec : {M : Type 1} → statement M
 locate-spec =

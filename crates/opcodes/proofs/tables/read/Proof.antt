@@ -2,6 +2,8 @@
 -- Assumes nothing.
 use borrow.Author.Needs.{needs}
 use native.Mathlib.Omega.{arith}
+use mathlib.Core.Path.{sym}
+use lib.Seq.{length-take-le}
 use Rattle.opcodes.proofs.Located.{located-placeable, located-listable, located-told, located-fault}
 use Rattle.opcodes.proofs.tables.read.Statement.{statement}
 use Rattle.opcodes.proofs.tables.read.Tie as tie
@@ -25,7 +27,7 @@ array-share-prefix-places : tie.Need-array-share-prefix-places
 array-share-prefix-places c = search needs
 
 slice-aggregate-read : tie.Need-slice-aggregate-read
-slice-aggregate-read c = ?
+slice-aggregate-read c = sym (length-take-le _ _ (c .before .before .place .ensures .inside))
 
 read-requires : tie.Need-read-requires
 read-requires c κs = located-listable _ _ _ (c .before .before .before .before .before .before .before .before .locate .ensures) _ _ _ (c .before .before .before .before .before .before .table2 .given .1) _ _ (c .before .before .before .place .ensures) _ (c .before .before .before .before .before .before .before .before .before .before .before .before .pre)

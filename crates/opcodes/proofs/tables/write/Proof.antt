@@ -2,6 +2,8 @@
 -- Assumes nothing.
 use borrow.Author.Needs.{needs}
 use native.Mathlib.Omega.{arith}
+use mathlib.Core.Path.{sym}
+use lib.Seq.{length-take-le}
 use Rattle.opcodes.proofs.Located.{located-placeable, located-storable, located-kept, located-refused}
 use Rattle.opcodes.proofs.tables.write.Statement.{statement}
 use Rattle.opcodes.proofs.tables.write.Tie as tie
@@ -28,7 +30,7 @@ array-share-prefix-places : tie.Need-array-share-prefix-places
 array-share-prefix-places c = search needs
 
 slice-aggregate-write : tie.Need-slice-aggregate-write
-slice-aggregate-write c = ?
+slice-aggregate-write c = sym (length-take-le _ _ (c .before .before .before .place .ensures .inside))
 
 write-requires : tie.Need-write-requires
 write-requires c κs = located-storable _ _ _ (c .before .before .before .before .before .before .before .before .before .before .locate .ensures) _ _ _ (c .before .before .before .before .before .before .before .before .table2 .given .1) _ _ (c .before .before .before .before .place .ensures) _ (c .before .before .wide .ensures .0) (c .before .before .before .before .before .before .before .before .before .before .before .before .before .pre)
