@@ -3,3 +3,4 @@ pub mod Plans
 pub mod Spanned
 pub mod Stretched
 pub mod Moments
+pub mod Located

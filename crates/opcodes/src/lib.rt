@@ -1,6 +1,7 @@
 // The eight opcodes: each checks its request's data and then does what it asks.
 pub mod blocks;
 pub mod named;
+pub mod tables;
 mod walks;
 pub mod clocks;
 
