@@ -6,6 +6,7 @@
 #include <string.h>
 #include <unistd.h>
 
+#include "frame.h"
 #include "moment.h"
 #include "words.h"
 
@@ -113,13 +114,20 @@ static void end_noise(struct line *line)
     line->noise = 0;
 }
 
-/* Judges the whole frame in front, by the rules of stream.h. */
+/* Whether a whole frame is one, by the rules of stream.h. */
+static bool is_frame(const uint8_t *frame, uint8_t outcome)
+{
+    if (outcome == TYURKANIM_NOT_FOR_US || outcome == TYURKANIM_SOURCE)
+        return frame[FRAME_TO_UNIT] != 0;
+    return outcome != TYURKANIM_CRC;
+}
+
 static void judge(struct line *line, size_t length, struct unit *unit, int64_t now)
 {
     const uint8_t *frame = stream_front(&line->in);
     struct answer answer;
     unit_answer(unit, frame, length, &answer, now);
-    if (answer.outcome == TYURKANIM_CRC) {
+    if (!is_frame(frame, answer.outcome)) {
         drop_noise(line);
         return;
     }

@@ -1,11 +1,14 @@
 /* Frames found in a stream of bytes.
  *
  * A stream has no marks between frames: a frame's end is known only from its sixth byte, the data length. After noise that byte may be
- * any number, so three rules find the next frame again:
+ * any number, so these rules find the next frame again:
  *
  * - A whole frame whose CRC is right goes as a whole, whoever it is for. What its data hold is never taken for a frame.
  * - A whole frame whose CRC differs is none. Only its first byte goes, and the search begins at the next one, so that a good frame
  *   behind, or within, what the noise made look like a frame is found and not lost with it.
+ * - So it is with a frame for another station that begins with a zero. The CRC starts at 0 and does not see zeros in front, and zeros
+ *   are what a disturbed line brings: the frame may well begin behind them. (A frame that truly begins so is a broadcast to another
+ *   group, which nobody answers.)
  * - A half frame waits for the rest. If the line falls silent it is given up in the same way, byte by byte: noise that promised
  *   more bytes than came does not hold back a good frame behind it. */
 #ifndef STREAM_H

@@ -103,24 +103,37 @@ impl Host {
             let left = until.saturating_duration_since(Instant::now());
             match self.line.receive(left)? {
                 Some(bytes) => self.pending.extend(bytes),
-                None => return Err(Failure::NoAnswer(self.wait)),
+                None => return salvage(&mut self.pending).ok_or(Failure::NoAnswer(self.wait)),
             }
         }
     }
 }
 
 /// Takes the first frame out of what has come. Bytes in front that begin no
-/// frame go one by one.
+/// frame go one by one; so do zeros, which leave the CRC right and begin no
+/// reply.
 fn take_frame(pending: &mut Vec<u8>) -> Option<Vec<u8>> {
     loop {
         let n = *pending.get(5)?;
         let length = OVERHEAD + usize::from(n);
         let frame = pending.get(..length)?;
-        if Frame::from_bytes(frame).is_ok() {
+        if frame[0] != 0 && Frame::from_bytes(frame).is_ok() {
             return Some(pending.drain(..length).collect());
         }
         pending.remove(0);
     }
+}
+
+/// Takes the first frame out of what has come if nothing more is to come: what
+/// looks like the beginning of one is given up too.
+fn salvage(pending: &mut Vec<u8>) -> Option<Vec<u8>> {
+    while !pending.is_empty() {
+        pending.remove(0);
+        if let Some(frame) = take_frame(pending) {
+            return Some(frame);
+        }
+    }
+    None
 }
 
 /// A frame as bytes.
@@ -134,16 +147,29 @@ pub(crate) fn bytes_of(frame: Frame) -> Vec<u8> {
 mod tests {
     use super::*;
 
+    fn frame() -> Vec<u8> {
+        Request::ReadClock.frame(Address { unit: 1, group: 2 }, Address { unit: 3, group: 0 })
+    }
+
     #[test]
     fn frames_behind_noise() {
-        let frame = Request::ReadClock.frame(Address { unit: 1, group: 2 }, Address::DIRECT);
-        let mut pending = vec![9, 9, 9, 9, 9, 0, 9];
-        pending.extend(&frame);
-        pending.extend(&frame[..5]);
-        assert_eq!(take_frame(&mut pending), Some(frame.clone()));
+        let mut pending = vec![9, 9, 9, 9, 9, 0, 9, 0, 0, 0];
+        pending.extend(frame().repeat(2));
+        pending.extend(&frame()[..5]);
+        assert_eq!(take_frame(&mut pending), Some(frame()));
+        assert_eq!(take_frame(&mut pending), Some(frame()));
         assert_eq!(take_frame(&mut pending), None);
-        pending.extend(&frame[5..]);
-        assert_eq!(take_frame(&mut pending), Some(frame));
+        pending.extend(&frame()[5..]);
+        assert_eq!(take_frame(&mut pending), Some(frame()));
         assert!(pending.is_empty());
+    }
+
+    #[test]
+    fn a_frame_behind_noise_that_promises_more() {
+        let mut pending = vec![9, 9, 9, 9, 9, 200];
+        pending.extend(frame());
+        assert_eq!(take_frame(&mut pending), None);
+        assert_eq!(salvage(&mut pending), Some(frame()));
+        assert_eq!(salvage(&mut pending), None);
     }
 }
