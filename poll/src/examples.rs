@@ -43,6 +43,12 @@ fn asked() -> Vec<(&'static str, Address, Request)> {
     let (table, start) = (Logical(0), Parameter(1));
     let broadcast = UNIT.broadcast();
     vec![
+        ("broadcast", broadcast, Request::SetClock(NOON)),
+        (
+            "direct-connect",
+            Address::DIRECT,
+            Request::ReadBlock(tlp(98, 0, 33), Count(1)),
+        ),
         ("read-clock", UNIT, Request::ReadClock),
         ("set-clock", UNIT, Request::SetClock(NOON)),
         (
@@ -87,12 +93,6 @@ fn asked() -> Vec<(&'static str, Address, Request)> {
             "refused",
             UNIT,
             Request::WriteBlock(tlp(124, 1, 7), vec![vec![7]]),
-        ),
-        ("broadcast", broadcast, Request::SetClock(NOON)),
-        (
-            "direct-connect",
-            Address::DIRECT,
-            Request::ReadBlock(tlp(98, 0, 33), Count(1)),
         ),
     ]
 }
@@ -174,10 +174,10 @@ impl Example {
 const BLOCK: &str = "```frames ";
 const END: &str = "```";
 
-/// The document with every block of frames written anew. Names that a document
-/// has and the examples have not, or the other way round, are an error.
+/// The document with every block of frames written anew. It has one for each
+/// example, in their order.
 pub fn refresh(document: &str) -> Result<String, String> {
-    let mut examples = examples();
+    let mut examples = examples().into_iter();
     let mut fresh = String::new();
     let mut lines = document.lines();
     while let Some(line) = lines.next() {
@@ -186,18 +186,18 @@ pub fn refresh(document: &str) -> Result<String, String> {
         let Some(name) = line.strip_prefix(BLOCK) else {
             continue;
         };
-        let at = examples
-            .iter()
-            .position(|example| example.name == name)
-            .ok_or_else(|| format!("no example is named {name}, or it stands twice"))?;
-        fresh += &examples.remove(at).text();
+        let example = examples
+            .next()
+            .filter(|example| example.name == name)
+            .ok_or_else(|| format!("no example {name} comes here"))?;
+        fresh += &example.text();
         fresh += END;
         fresh.push('\n');
         lines
             .find(|&line| line == END)
             .ok_or_else(|| format!("the block {name} does not end"))?;
     }
-    match examples.first() {
+    match examples.next() {
         Some(example) => Err(format!("the document has no block {}", example.name)),
         None => Ok(fresh),
     }

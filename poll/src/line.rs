@@ -92,12 +92,22 @@ impl Line {
 fn read_within(stream: &mut TcpStream, wait: Duration) -> io::Result<Option<Vec<u8>>> {
     // A time-out of zero would mean none.
     stream.set_read_timeout(Some(wait.max(Duration::from_millis(1))))?;
-    let mut space = [0; CHUNK];
-    match stream.read(&mut space) {
-        Ok(count) => Ok(Some(space[..count].to_vec())),
+    match read_some(stream) {
+        Ok(bytes) => Ok(Some(bytes)),
         Err(error) if matches!(error.kind(), ErrorKind::WouldBlock | ErrorKind::TimedOut) => {
             Ok(None)
         }
         Err(error) => Err(error),
+    }
+}
+
+/// The next bytes, none at the end.
+fn read_some(from: &mut impl Read) -> io::Result<Vec<u8>> {
+    let mut space = [0; CHUNK];
+    loop {
+        match from.read(&mut space) {
+            Err(error) if error.kind() == ErrorKind::Interrupted => {}
+            read => return read.map(|count| space[..count].to_vec()),
+        }
     }
 }

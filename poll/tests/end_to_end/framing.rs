@@ -102,7 +102,7 @@ fn zeros_between() {
         frame(UNIT.broadcast(), neighbour, 8, &[6, 5, 4, 3, 2, 0xEA, 7]),
         ask(167, &[98, 0, 3, 31]),
     ];
-    for count in 0..18 {
+    for count in 0..10 {
         for request in &requests {
             pair.host.send(&vec![0; count]).unwrap();
             pair.check(request);
