@@ -78,19 +78,6 @@ int server_start(struct server *server, const struct arguments *arguments)
     return EXIT_SUCCESS;
 }
 
-/* Closes the connection that was silent longest: a host that went away without a word would otherwise hold its line for ever. */
-static void make_place(struct server *server)
-{
-    struct line *silent = NULL;
-    for (size_t i = FIRST_CONNECTION; i < SERVER_LINES; i++) {
-        struct line *line = &server->lines[i];
-        if (line_is_open(line) && (silent == NULL || line->heard < silent->heard))
-            silent = line;
-    }
-    if (silent != NULL)
-        line_close(silent);
-}
-
 static struct line *closed_line(struct server *server)
 {
     for (size_t i = FIRST_CONNECTION; i < SERVER_LINES; i++) {
@@ -100,16 +87,34 @@ static struct line *closed_line(struct server *server)
     return NULL;
 }
 
+/* Closes the connection that was silent longest, if there is one: a host that went away without a word would otherwise hold its line for
+ * ever. */
+static struct line *make_place(struct server *server)
+{
+    struct line *silent = NULL;
+    for (size_t i = FIRST_CONNECTION; i < SERVER_LINES; i++) {
+        struct line *line = &server->lines[i];
+        if (line_is_open(line) && (silent == NULL || line->heard < silent->heard))
+            silent = line;
+    }
+    if (silent != NULL)
+        line_close(silent);
+    return silent;
+}
+
 static void take_connection(struct server *server, int64_t now)
 {
     char name[LINE_NAME_BYTES];
-    if (closed_line(server) == NULL)
-        make_place(server);
     int connection = tcp_accept(server->listener, name, sizeof name);
-    if (connection >= 0)
-        line_open(closed_line(server), connection, name, server->arguments.verbose, now);
-    else if (errno == EMFILE || errno == ENFILE)
-        make_place(server);
+    if (connection < 0) {
+        if (errno == EMFILE || errno == ENFILE)
+            make_place(server);
+        return;
+    }
+    struct line *line = closed_line(server);
+    if (line == NULL)
+        line = make_place(server);
+    line_open(line, connection, name, server->arguments.verbose, now);
 }
 
 /* Waits until a line, the listener, a deadline or the clock's next second has something to do. */

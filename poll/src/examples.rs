@@ -137,7 +137,7 @@ fn located(store: &[u8; STORE_LENGTH], request: &Request) -> Vec<Tlp> {
         Request::WriteTable(table, start, values) => (table, start.0, values.len()),
         _ => return Vec::new(),
     };
-    (start..)
+    (start..=u8::MAX)
         .take(count)
         .filter_map(|location| {
             let location = Tlp::from_bytes([99, table.0, location]);

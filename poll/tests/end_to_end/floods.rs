@@ -2,12 +2,13 @@
 //! request is answered.
 
 use crate::gateway::{Gateway, SILENCE};
-use crate::libc::SIGTERM;
+use crate::libc::{pseudo_terminal, SIGTERM};
 use crate::pair::{ask, Pair};
 use crate::random::Random;
 use crate::serial;
 use std::io::{ErrorKind, Read, Write};
-use std::net::TcpStream;
+use std::net::{Shutdown, TcpStream};
+use std::time::Duration;
 
 /// What resident memory may grow by, in kilobytes: some pages that were never
 /// touched before, no buffer for each frame or client.
@@ -141,4 +142,27 @@ fn requests() {
             }
         });
     });
+}
+
+/// Lines that are gone, stuck or in the middle of a frame cost nothing while
+/// nothing comes.
+#[test]
+fn idle() {
+    let (end, path) = pseudo_terminal();
+    let gateway = Gateway::start(&["--serial", &path]);
+    let mut half = gateway.connect();
+    half.write_all(&ask(7, &[])[..5]).unwrap();
+    let closed = gateway.connect();
+    closed.shutdown(Shutdown::Write).unwrap();
+    let mut stuck = gateway.connect();
+    stuck.set_nonblocking(true).unwrap();
+    let read = ask(167, &[98, 0, 56, 0]);
+    while stuck.write_all(&read).is_ok() {}
+    drop(end);
+    std::thread::sleep(SILENCE);
+    let before = gateway.processor_time();
+    std::thread::sleep(Duration::from_secs(2));
+    let taken = gateway.processor_time() - before;
+    assert!(taken < 20, "{taken} hundredths of two seconds");
+    gateway.stop(SIGTERM);
 }

@@ -111,6 +111,18 @@ impl Gateway {
             .expect("its resident memory")
     }
 
+    /// The processor time that it has taken, in hundredths of a second.
+    pub fn processor_time(&self) -> u64 {
+        let stat = fs::read_to_string(format!("/proc/{}/stat", self.id())).expect("a status");
+        // Behind its name in parentheses, user and system time are fields 12
+        // and 13.
+        let (_, fields) = stat.rsplit_once(") ").expect("fields");
+        let times = fields.split(' ').skip(11).take(2);
+        times
+            .map(|time| time.parse::<u64>().expect("a number"))
+            .sum()
+    }
+
     /// Ends it by a signal; it ends well, and a sanitizer that found something
     /// would not let it.
     pub fn stop(mut self, signal: i32) {

@@ -1,7 +1,9 @@
 //! A host for ROC Plus devices, from the command line.
 
+mod answers;
 mod arguments;
 mod commands;
+mod spelling;
 
 use arguments::{Arguments, HELP};
 use poll::{Failure, Host, Line};
