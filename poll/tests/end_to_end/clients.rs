@@ -56,6 +56,11 @@ fn gone_before_the_answer() {
         // One answer is there, so the others find a connection that is reset.
         client.read_exact(&mut [0; 8]).unwrap();
         drop(client);
+        // None is there yet when this one closes, so that the second finds
+        // nobody who takes it.
+        let mut client = gateway.connect();
+        client.write_all(&read.repeat(80)).unwrap();
+        drop(client);
         let mut half = gateway.connect();
         half.write_all(&read[..9]).unwrap();
         drop(half);

@@ -6,6 +6,7 @@ use crate::libc::{pseudo_terminal, SIGTERM};
 use crate::pair::{ask, Pair};
 use crate::random::Random;
 use crate::serial;
+use crate::unit::Unit;
 use std::io::{ErrorKind, Read, Write};
 use std::net::{Shutdown, TcpStream};
 use std::time::Duration;
@@ -126,20 +127,28 @@ fn connections_that_stay() {
     });
 }
 
-/// Requests far faster than their answers are read.
+/// Requests far faster than their answers are read, from a host that closes its
+/// half when it has asked all.
 #[test]
 fn requests() {
+    const COUNT: usize = 20_000;
     put_through(|gateway, _| {
         let client = gateway.connect();
         let mut answers = client.try_clone().unwrap();
-        let read = ask(167, &[98, 0, 56, 0]);
-        let count = 3000;
+        let read = ask(167, &[123, 0, 12, 0]);
+        let (_, expected) = Unit::fresh(3).answer(&read);
         std::thread::scope(|scope| {
-            scope.spawn(|| pour(client, &read.repeat(count)));
-            let mut answer = vec![0; 8 + 254];
-            for _ in 0..count {
+            scope.spawn(|| {
+                (&client).write_all(&read.repeat(COUNT)).unwrap();
+                client.shutdown(Shutdown::Write).unwrap();
+            });
+            std::thread::sleep(SILENCE);
+            let mut answer = vec![0; expected.len()];
+            for _ in 0..COUNT {
                 answers.read_exact(&mut answer).unwrap();
+                assert!(answer == expected);
             }
+            assert_eq!(answers.read(&mut answer).unwrap(), 0);
         });
     });
 }

@@ -3,6 +3,7 @@
 use crate::gateway::{Gateway, LONG, SILENCE};
 use crate::libc::{pseudo_terminal, SIGTERM};
 use crate::pair::{ask, Pair};
+use crate::unit::Unit;
 use poll::examples::{HOST, UNIT};
 use poll::{Host, Line};
 use std::fs::{self, File};
@@ -48,6 +49,27 @@ fn noise_and_half_frames() {
         // At once behind noise.
         pair.host.send(noise).unwrap();
         assert_eq!(pair.check(&good), 0);
+    }
+    gateway.stop(SIGTERM);
+}
+
+/// More replies than the line and the gateway hold: what is left waits, and
+/// none is lost or mixed up.
+#[test]
+fn a_host_that_reads_late() {
+    let (mut end, path) = pseudo_terminal();
+    let gateway = Gateway::start(&["--serial", &path]);
+    let mut unit = Unit::fresh(3);
+    let requests: Vec<_> = (0..80)
+        .map(|number| ask(167, &[98, number % 32, 45 + number % 12, number % 5]))
+        .collect();
+    end.write_all(&requests.concat()).unwrap();
+    sleep(SILENCE);
+    for request in requests {
+        let (_, expected) = unit.answer(&request);
+        let mut reply = vec![0; expected.len()];
+        end.read_exact(&mut reply).unwrap();
+        assert_eq!(reply, expected);
     }
     gateway.stop(SIGTERM);
 }
