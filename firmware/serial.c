@@ -1,4 +1,4 @@
-#define _DEFAULT_SOURCE /* cfmakeraw, and rates over 38400 */
+#define _DEFAULT_SOURCE /* cfmakeraw, CRTSCTS, and rates over 38400 */
 #include "serial.h"
 
 #include <errno.h>
@@ -11,8 +11,7 @@ static const struct {
     unsigned long rate;
     speed_t speed;
 } rates[] = {
-    {300, B300},   {600, B600},     {1200, B1200},   {2400, B2400},   {4800, B4800},
-    {9600, B9600}, {19200, B19200}, {38400, B38400}, {57600, B57600}, {115200, B115200},
+    {1200, B1200}, {2400, B2400}, {4800, B4800}, {9600, B9600}, {19200, B19200}, {38400, B38400}, {57600, B57600}, {115200, B115200},
 };
 
 static bool find_speed(unsigned long rate, speed_t *speed)
@@ -39,7 +38,9 @@ static bool set_up(int device, unsigned long rate)
     if (tcgetattr(device, &settings) != 0)
         return false;
     cfmakeraw(&settings);
-    settings.c_cflag |= CLOCAL | CREAD; /* three wires have no line that says whether a host is there */
+    /* 8 data bits, no parity, one stop bit, and three wires: no line says whether a host is there or may be sent to. */
+    settings.c_cflag &= ~(tcflag_t)(CSTOPB | CRTSCTS);
+    settings.c_cflag |= CLOCAL | CREAD;
     if (find_speed(rate, &speed) && cfsetspeed(&settings, speed) != 0)
         return false;
     /* What came before was not meant for us, or half of it is lost. */

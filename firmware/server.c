@@ -26,22 +26,22 @@ static void ask_to_end(int number)
     asked_to_end = 1;
 }
 
-/* Blocks the signals that end the program, so that they come only while ppoll waits, with the mask that is returned. */
+/* Blocks the signals that end the program, and gives the mask without them: so they come only while ppoll waits, where they wake it. */
 static sigset_t catch_signals(void)
 {
-    struct sigaction action = {.sa_handler = ask_to_end};
+    const struct sigaction action = {.sa_handler = ask_to_end};
     sigset_t ending;
-    sigset_t before;
+    sigset_t waiting;
     sigemptyset(&ending);
     sigaddset(&ending, SIGTERM);
     sigaddset(&ending, SIGINT);
-    sigprocmask(SIG_BLOCK, &ending, &before);
+    sigprocmask(SIG_BLOCK, &ending, &waiting);
+    sigdelset(&waiting, SIGTERM);
+    sigdelset(&waiting, SIGINT);
     sigaction(SIGTERM, &action, NULL);
     sigaction(SIGINT, &action, NULL);
     signal(SIGPIPE, SIG_IGN); /* a write to a line that is gone says so itself */
-    sigdelset(&before, SIGTERM);
-    sigdelset(&before, SIGINT);
-    return before;
+    return waiting;
 }
 
 static bool open_serial(struct server *server, int64_t now)
@@ -59,6 +59,7 @@ int server_start(struct server *server, const struct arguments *arguments)
     int64_t now = moment_now();
     char name[LINE_NAME_BYTES];
     server->arguments = *arguments;
+    server->waiting_mask = catch_signals();
     for (size_t i = 0; i < SERVER_LINES; i++)
         server->lines[i].descriptor = -1;
     if (!unit_start(&server->unit, arguments->unit, arguments->group, arguments->level, now)) {
@@ -118,7 +119,7 @@ static void take_connection(struct server *server, int64_t now)
 }
 
 /* Waits until a line, the listener, a deadline or the clock's next second has something to do. */
-static void wait_for_work(const struct server *server, struct pollfd *polled, const sigset_t *mask, int64_t now)
+static void wait_for_work(const struct server *server, struct pollfd *polled, int64_t now)
 {
     int64_t deadline = unit_next_second(&server->unit);
     for (size_t i = 0; i < SERVER_LINES; i++) {
@@ -134,7 +135,7 @@ static void wait_for_work(const struct server *server, struct pollfd *polled, co
 
     int64_t left = deadline > now ? deadline - now : 0;
     struct timespec timeout = {.tv_sec = left / SECOND, .tv_nsec = left % SECOND * 1000000};
-    if (ppoll(polled, SERVER_LINES + 1, &timeout, mask) < 0) {
+    if (ppoll(polled, SERVER_LINES + 1, &timeout, &server->waiting_mask) < 0) {
         for (size_t i = 0; i <= SERVER_LINES; i++)
             polled[i].revents = 0;
     }
@@ -143,9 +144,8 @@ static void wait_for_work(const struct server *server, struct pollfd *polled, co
 void server_run(struct server *server)
 {
     struct pollfd polled[SERVER_LINES + 1];
-    sigset_t mask = catch_signals();
     while (!asked_to_end) {
-        wait_for_work(server, polled, &mask, moment_now());
+        wait_for_work(server, polled, moment_now());
         int64_t now = moment_now();
         bool new_second = unit_next_second(&server->unit) <= now;
         unit_pass(&server->unit, now);

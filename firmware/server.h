@@ -2,6 +2,8 @@
 #ifndef SERVER_H
 #define SERVER_H
 
+#include <signal.h>
+
 #include "arguments.h"
 #include "line.h"
 #include "unit.h"
@@ -12,6 +14,7 @@ struct server {
     struct arguments arguments;
     struct unit unit;
     int listener;
+    sigset_t waiting_mask; /* the signals that are blocked while it waits */
     struct line lines[SERVER_LINES];
 };
 

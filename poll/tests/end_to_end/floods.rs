@@ -13,7 +13,7 @@ use std::time::Duration;
 
 /// What resident memory may grow by, in kilobytes: some pages that were never
 /// touched before, no buffer for each frame or client.
-const GROWTH: u64 = 2048;
+const GROWTH: u64 = 256;
 
 const STRETCH: usize = 4096;
 
