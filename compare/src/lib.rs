@@ -1,0 +1,14 @@
+//! The differential test: sequences of calls at random, made on the archive and
+//! on the reference, with every answer and every byte of every buffer compared.
+
+pub mod difference;
+pub mod gateway;
+pub mod generate;
+pub mod hex;
+pub mod pairs;
+pub mod random;
+pub mod run;
+pub mod shrink;
+pub mod step;
+pub mod tally;
+pub mod unit;
