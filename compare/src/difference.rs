@@ -3,6 +3,7 @@
 use std::fmt;
 
 use reference::points::POINTS;
+use reference::store::STORE_LENGTH;
 
 use crate::gateway::Gateway;
 use crate::hex::hex;
@@ -10,7 +11,7 @@ use crate::run::Sides;
 use crate::step::Step;
 use crate::unit::{Answer, Unit};
 
-/// The most bytes of a store that are told one by one.
+/// The most bytes of a buffer that are told one by one.
 const TOLD: usize = 16;
 
 /// Steps from a new unit, the last of which the two sides answer differently.
@@ -70,7 +71,30 @@ impl fmt::Display for Difference {
         }
         writeln!(f, "the last step ends differently.")?;
         self.ends.iter().try_for_each(|end| end.fmt(f))?;
-        tell_stores(f, &self.ends)
+        self.tell_buffers(f)
+    }
+}
+
+impl Difference {
+    fn tell_buffers(&self, f: &mut fmt::Formatter) -> fmt::Result {
+        let [right, tried] = &self.ends;
+        let buffers = right.unit.buffers().into_iter().zip(tried.unit.buffers());
+        for ((buffer, a), (_, b)) in buffers {
+            let places = (0..a.len()).filter(|&at| a[at] != b[at]);
+            for at in places.clone().take(TOLD) {
+                write!(f, "{buffer} at {at}")?;
+                if buffer == "store" {
+                    write!(f, ", {}", named(at))?;
+                }
+                let (a, b) = (a[at], b[at]);
+                writeln!(f, ": {} {a:#04x}, {} {b:#04x}", right.name, tried.name)?;
+            }
+            let count = places.count();
+            if count > TOLD {
+                writeln!(f, "and {} bytes more of the {buffer}", count - TOLD)?;
+            }
+        }
+        Ok(())
     }
 }
 
@@ -78,35 +102,23 @@ impl fmt::Display for End {
     fn fmt(&self, f: &mut fmt::Formatter) -> fmt::Result {
         let Self { name, answer, unit } = self;
         write!(f, "{name}: outcome {}", answer.outcome)?;
-        write!(f, ", clock {:?}", unit.clock())?;
         if let Some((kind, bits)) = answer.number {
             write!(f, ", kind {kind}, bits {bits:#x}")?;
         }
         if let Some(length) = answer.length {
-            write!(f, ", length {length}\n  reply space ")?;
-            let end = unit.reply().len().min(usize::from(length));
-            let (sent, behind) = unit.reply().split_at(end);
-            write!(f, "{} {}", hex(sent), hex(behind))?;
+            let sent = unit.reply().get(..usize::from(length));
+            let sent = sent.map_or_else(|| "longer than its space".to_owned(), hex);
+            write!(f, ", length {length}, reply {sent}")?;
         }
-        writeln!(f)
-    }
-}
-
-fn tell_stores(f: &mut fmt::Formatter, [right, tried]: &[End; 2]) -> fmt::Result {
-    let bytes = right.unit.store().iter().zip(tried.unit.store());
-    let places = bytes.enumerate().filter(|(_, (a, b))| a != b);
-    for (at, (a, b)) in places.clone().take(TOLD) {
-        write!(f, "store at {at}, {}: ", named(at))?;
-        writeln!(f, "{} {a:#04x}, {} {b:#04x}", right.name, tried.name)?;
-    }
-    match places.count() {
-        count if count > TOLD => writeln!(f, "and {} bytes more", count - TOLD),
-        _ => Ok(()),
+        writeln!(f, ", clock {:?}", unit.clock())
     }
 }
 
 /// The parameter that an offset in the store belongs to.
 fn named(at: usize) -> String {
+    if at >= STORE_LENGTH {
+        return "behind its end".to_owned();
+    }
     let (point, within) = POINTS
         .iter()
         .rev()

@@ -7,6 +7,7 @@ pub mod generate;
 pub mod hex;
 pub mod pairs;
 pub mod random;
+pub mod rows;
 pub mod run;
 pub mod shrink;
 pub mod step;

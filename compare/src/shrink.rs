@@ -14,6 +14,10 @@ const TRIES: usize = 300_000;
 /// The bytes of an entry of a list with its value, or of a value alone.
 const ENTRIES: [usize; 14] = [1, 2, 3, 4, 5, 6, 7, 8, 10, 11, 13, 20, 23, 43];
 
+/// The addresses that are tried in place of others.
+const OWN: [u8; 2] = [1, 2];
+const HOST: [u8; 2] = [3, 4];
+
 /// What is tried: the simplest steps so far.
 struct Search<'a> {
     sides: Sides<'a>,
@@ -70,14 +74,25 @@ impl Search<'_> {
     fn simplify_steps(&mut self) {
         let mut at = 0;
         while at < self.steps.len() {
-            let step = self.steps[at].clone();
-            let simplified = simpler(&step).any(|simpler| {
+            self.simplify(at);
+            at += 1;
+        }
+    }
+
+    /// Goes through what is simpler than a step once. After a success it goes
+    /// on where it was: what was tried in vain before is left to the next round.
+    fn simplify(&mut self, at: usize) {
+        let mut tried = 0;
+        while let Some(step) = self.steps.get(at).cloned() {
+            let mut candidates = simpler(&step).enumerate().skip(tried);
+            let taken = candidates.find(|(_, simpler)| {
                 let mut steps = self.steps.clone();
-                steps[at] = simpler;
+                steps[at] = simpler.clone();
                 self.tries < TRIES && self.accept(steps)
             });
-            if !simplified {
-                at += 1;
+            match taken {
+                Some((number, _)) => tried = number,
+                None => return,
             }
         }
     }
@@ -116,7 +131,12 @@ fn simpler_request(request: &Request) -> Simpler<'_, Request> {
             reply_length: LONGEST,
             ..request.clone()
         },
-        readdressed(request),
+        readdressed(request, |_| OWN),
+        readdressed(request, |to| match to {
+            _ if to == request.own => OWN,
+            [0, group] if group == request.own[1] => [0, OWN[1]],
+            other => other,
+        }),
     ];
     let changed = settings
         .into_iter()
@@ -132,20 +152,15 @@ fn simpler_request(request: &Request) -> Simpler<'_, Request> {
     Box::new(changed.chain(levels).chain(frames))
 }
 
-/// The same request at station 1,2 from 3,4.
-fn readdressed(request: &Request) -> Request {
-    let (own, host) = ([1, 2], [3, 4]);
+/// The same request at another station, from another one.
+fn readdressed(request: &Request, destination: impl Fn([u8; 2]) -> [u8; 2]) -> Request {
     let Ok(frame) = Frame::from_bytes(&request.frame) else {
         return request.clone();
     };
-    let destination = match [frame.destination.unit, frame.destination.group] {
-        to if to == request.own => own,
-        [0, group] if group == request.own[1] => [0, own[1]],
-        other => other,
-    };
+    let destination = destination([frame.destination.unit, frame.destination.group]);
     Request {
-        frame: sealed(destination, host, frame.opcode, frame.data),
-        own,
+        frame: sealed(destination, HOST, frame.opcode, frame.data),
+        own: OWN,
         ..request.clone()
     }
 }

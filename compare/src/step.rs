@@ -94,14 +94,12 @@ impl fmt::Display for Call {
 impl fmt::Display for Request {
     fn fmt(&self, f: &mut fmt::Formatter) -> fmt::Result {
         let [unit, group] = self.own;
-        write!(f, "request to {unit},{group} at level {}", self.level)?;
-        match self.frame.as_slice() {
-            [_, _, _, _, opcode, _, data @ .., _, _] => {
-                write!(f, ", opcode {opcode}, data {data:?}")?;
-            }
-            _ => write!(f, ", no whole frame")?,
+        write!(f, "request at station {unit},{group}, level {}", self.level)?;
+        write!(f, ", reply space of {} bytes: ", self.reply_length)?;
+        if let [to, to_group, from, from_group, opcode, _, data @ .., _, _] = &self.frame[..] {
+            write!(f, "to {to},{to_group} from {from},{from_group}, ")?;
+            write!(f, "opcode {opcode}, data {data:?}, ")?;
         }
-        write!(f, ", reply space of {} bytes", self.reply_length)?;
-        write!(f, ", frame {}", hex(&self.frame))
+        write!(f, "frame {}", hex(&self.frame))
     }
 }

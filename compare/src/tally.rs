@@ -4,6 +4,7 @@ use std::collections::{BTreeMap, BTreeSet};
 use std::fmt;
 
 use crate::pairs::{KINDS, OUTCOMES};
+use crate::rows::Rows;
 use crate::step::{Call, Request, Step};
 use crate::unit::{Answer, Unit};
 
@@ -27,6 +28,7 @@ pub struct Tally {
     counts: BTreeMap<(usize, usize, u8), u64>,
     /// Kind, outcome and place of the error frames.
     places: BTreeSet<(usize, u8, u8)>,
+    rows: Rows,
 }
 
 impl Tally {
@@ -40,6 +42,7 @@ impl Tally {
     pub fn count(&mut self, step: &Step, answer: Answer, after: &Unit) {
         let Some(kind) = kind(&step.call) else { return };
         self.calls += 1;
+        self.rows.count(&step.call, answer.outcome);
         let mut way = 0;
         if let Call::Request(request) = &step.call {
             way = way_of(request, answer.outcome);
@@ -55,8 +58,8 @@ impl Tally {
         count.copied().unwrap_or_default()
     }
 
-    /// What is wrong with the counts: a pair that can occur and never did, or
-    /// one that cannot and did.
+    /// What is wrong with the counts: a pair that can occur and never did, one
+    /// that cannot and did, a row that was not tried.
     #[must_use]
     pub fn faults(&self) -> Vec<String> {
         let never = all()
@@ -73,7 +76,7 @@ impl Tally {
                 let reason = reason.unwrap_or("document 01 has no such outcome");
                 said(way, kind, outcome, &format!("occurred, though {reason}"))
             });
-        never.chain(did).collect()
+        never.chain(did).chain(self.rows.faults()).collect()
     }
 
     fn table(&self, f: &mut fmt::Formatter, way: usize) -> fmt::Result {
@@ -101,7 +104,8 @@ impl fmt::Display for Tally {
             self.table(f, way)?;
         }
         writeln!(f, "Different places in error frames:")?;
-        self.places(f)
+        self.places(f)?;
+        self.rows.fmt(f)
     }
 }
 

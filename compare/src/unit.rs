@@ -69,6 +69,16 @@ impl Unit {
         &self.reply
     }
 
+    /// Every buffer with the bytes behind it, by name.
+    #[must_use]
+    pub fn buffers(&self) -> [(&'static str, &[u8]); 3] {
+        [
+            ("store", &*self.store),
+            ("clock", &self.clock),
+            ("reply space", &self.reply),
+        ]
+    }
+
     fn clock_mut(&mut self) -> &mut [u8; 7] {
         self.clock.first_chunk_mut().expect("the buffer is longer")
     }

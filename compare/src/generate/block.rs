@@ -10,11 +10,13 @@ use crate::random::Random;
 
 /// Opcode 167: type, logical, count, start.
 pub fn read(random: &mut Random, level: u8) -> Vec<u8> {
-    let first = tlps::such(random, |found| readable(found, level));
+    let good = random.percent(90);
+    let first = tlps::such(random, |found| readable(found, level) == good);
     let first = first.unwrap_or_else(|| tlps::existing(random));
     let rest = first.point.rows.len() - usize::from(first.parameter.0);
     let some = 1 + random.below(rest);
-    let count = random.of(&[1, some, some, rest]) as u8;
+    let full = fitting(&following(first), |_| true);
+    let count = random.of(&[1, some, some, full, rest.min(full + 1), rest]) as u8;
     let odd = name(random, first, count, rest as u8);
     odd.unwrap_or_else(|| named(first, Count(count))).to_vec()
 }
@@ -24,7 +26,7 @@ pub fn write(random: &mut Random, store: &Store, level: u8) -> Vec<u8> {
     let first = tlps::such(random, |found| writable(found, level));
     let first = first.unwrap_or_else(|| tlps::existing(random));
     let following = following(first);
-    let run = fitting(&following, level);
+    let run = fitting(&following, |found| writable(found, level));
     let some = 1 + random.below(run);
     let count = random.of(&[1, some, some, run]);
     let mut values = Vec::new();
@@ -94,12 +96,13 @@ fn following(first: Found) -> Vec<Found> {
         .collect()
 }
 
-/// How many of them, at least one, a level may write in one frame.
-fn fitting(following: &[Found], level: u8) -> usize {
+/// How many of them one frame has room for, as far as each is wanted; at least
+/// one.
+fn fitting(following: &[Found], wanted: impl Fn(&Found) -> bool) -> usize {
     let mut length = 4;
     let fits = following.iter().take_while(|found| {
         length += found.row.length();
-        writable(found, level) && length <= MOST_DATA
+        wanted(found) && length <= MOST_DATA
     });
     fits.count().max(1)
 }

@@ -85,7 +85,7 @@ fn data(random: &mut Random, opcode: u8, level: u8, unit: &Unit) -> Vec<u8> {
     match opcode {
         7 => Vec::new(),
         8 => clocks::any(random).to_vec(),
-        10 => table::read(random),
+        10 => table::read(random, unit.store()),
         11 => table::write(random, unit.store()),
         166 => block::write(random, unit.store(), level),
         167 => block::read(random, level),

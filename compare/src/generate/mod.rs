@@ -38,7 +38,7 @@ impl Sequence {
         let mut random = Random::new(start.wrapping_add(number));
         Self {
             own: frames::own_address(&mut random),
-            tables: random.below(4),
+            tables: random.of(&[0, 1, 2, 2, 3, 4, 5]),
             taken: 0,
             length: LONGEST / 8 + random.below(LONGEST - LONGEST / 8 + 1),
             random,
@@ -88,8 +88,8 @@ impl Sequence {
             82..89 => Call::NumberRead(tlps::any(random)),
             89..93 => Call::Tick,
             93..95 => Call::SetClock(clocks::any(random)),
-            95..97 => table::set_up(random, self.own),
-            97 => Call::Fill,
+            95..98 => table::set_up(random, self.own),
+            98 if random.percent(40) => Call::Fill,
             _ => {
                 let found = tlps::existing(random);
                 Call::Overwrite(found.offset, random.bytes(found.row.length()))

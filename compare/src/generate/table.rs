@@ -16,13 +16,13 @@ const LOCATIONS: u8 = 44;
 const USED: [u8; 4] = [0, 1, 2, TABLES - 1];
 
 /// Opcode 10: table, start, count.
-pub fn read(random: &mut Random) -> Vec<u8> {
-    named(random).to_vec()
+pub fn read(random: &mut Random, store: &Store) -> Vec<u8> {
+    named(random, store).to_vec()
 }
 
 /// Opcode 11: the same, then a value for each location.
 pub fn write(random: &mut Random, store: &Store) -> Vec<u8> {
-    let [table, start, count] = named(random);
+    let [table, start, count] = named(random, store);
     let mut data = vec![table, start, count];
     let fault = random
         .percent(30)
@@ -41,23 +41,44 @@ pub fn write(random: &mut Random, store: &Store) -> Vec<u8> {
     data
 }
 
-fn named(random: &mut Random) -> [u8; 3] {
-    let table = random.of(&USED);
+fn named(random: &mut Random, store: &Store) -> [u8; 3] {
     let start = 1 + random.below(LOCATIONS.into()) as u8;
-    let start = random.of(&[start, start, 1, LOCATIONS]);
+    let start = random.of(&[start, start, 1, 1, LOCATIONS]);
+    let table = set_up_at(random, store, start);
     let rest = LOCATIONS + 1 - start;
     let some = 1 + random.below(rest.into()) as u8;
-    let few = some.min(3);
-    let count = random.of(&[1, few, few, some, rest]);
-    match random.below(20) {
+    let few = some.min(5);
+    let full = fitting(store, table, start).clamp(1, rest);
+    let over = (full + 1).min(rest);
+    let count = random.of(&[1, few, few, some, rest, full, over]);
+    match random.below(30) {
         0 => [random.of(&[TABLES, TABLES + 1, 255]), start, count],
         1 => [table, random.of(&[0, LOCATIONS + 1, 255]), count],
         2 => [table, start, 0],
         3 => [table, start, rest + 1],
         4 => [table, start, random.of(&ODD_COUNTS)],
-        5 => [random.of(&[3, 7, 14]), start, count],
+        5 => [random.of(&[3, 7, TABLES - 2]), start, count],
         _ => [table, start, count],
     }
+}
+
+/// A table with something in a location, if one was met.
+fn set_up_at(random: &mut Random, store: &Store, location: u8) -> u8 {
+    let tables = [(); 4].map(|()| random.of(&USED));
+    let set_up = |table: &u8| at(store, *table, location.into()).is_some();
+    tables.into_iter().find(set_up).unwrap_or(tables[0])
+}
+
+/// How many locations a reply to opcode 10 has room for.
+fn fitting(store: &Store, table: u8, start: u8) -> u8 {
+    let mut length = 3 + 4;
+    let locations = usize::from(start)..=LOCATIONS.into();
+    let fits = locations.map_while(|location| at(store, table, location));
+    let fits = fits.take_while(|found| {
+        length += found.row.length();
+        length <= MOST_DATA
+    });
+    fits.count() as u8
 }
 
 /// What a location of a table names, if it exists.
@@ -76,15 +97,16 @@ fn place(table: u8, location: u8) -> Option<Found> {
 /// putting in one location what no request can put there.
 pub fn set_up(random: &mut Random, own: [u8; 2]) -> Call {
     let table = random.of(&USED);
-    if random.percent(20) {
-        let location = 1 + random.below(LOCATIONS.into()) as u8;
+    if random.percent(30) {
+        let any = 1 + random.below(LOCATIONS.into()) as u8;
+        let location = random.of(&[1, 2, 3, any, any, LOCATIONS]);
         let location = place(table, location).expect("the table has it");
         return Call::Overwrite(location.offset, tlps::missing(random).to_vec());
     }
-    let sort = random.below(8);
+    let sort = random.below(9);
     let mut data = vec![99, table, LOCATIONS, 1];
-    for _ in 0..LOCATIONS {
-        data.extend(contents(random, sort, table));
+    for location in 1..=LOCATIONS {
+        data.extend(contents(random, sort, table, location));
     }
     if random.percent(40) {
         // One location that a level or its access keeps from being used.
@@ -96,15 +118,18 @@ pub fn set_up(random: &mut Random, own: [u8; 2]) -> Call {
 }
 
 /// What a location names in a table of a sort.
-fn contents(random: &mut Random, sort: usize, table: u8) -> Tlp {
-    let location = random.below(usize::from(LOCATIONS) + 1) as u8;
+fn contents(random: &mut Random, sort: usize, table: u8, location: u8) -> Tlp {
+    let any = random.below(usize::from(LOCATIONS) + 1) as u8;
     let found = match sort {
         // Its own locations, or those of other tables.
-        0 => return [99, table, location],
-        1 => return [99, random.of(&USED), location],
-        2 => Some(tlps::existing(random)),
-        3 => tlps::such(random, |found| found.row.length() >= 10),
-        4 => tlps::such(random, |found| found.point.point_type.0 == 124),
+        0 => return [99, table, any],
+        1 => return [99, random.of(&USED), any],
+        // Long texts, then single bytes, so that a reply can be just full.
+        2 if location <= 6 => return [98, location, 0],
+        2 => return [98, location % 32, 33],
+        3 => Some(tlps::existing(random)),
+        4 => tlps::such(random, |found| found.row.length() >= 10),
+        5 => tlps::such(random, |found| found.point.point_type.0 == 124),
         _ => tlps::such(random, |found| {
             found.row.length() <= 4 && tlps::writable(found, 2)
         }),

@@ -9,15 +9,26 @@ use crate::step::Tlp;
 /// none.
 const TRIES: usize = 200;
 
-/// A parameter that exists. Type 124, whose values hang together, comes more
-/// often than its size asks.
+/// A parameter that exists.
 pub fn existing(random: &mut Random) -> Found {
-    let point = &POINTS[random.of(&[0, 1, 1, 1, 2, 2, 3, 3, 4, 5, 5, 5])];
+    if random.percent(15) {
+        return paired(random);
+    }
+    let point = &POINTS[random.of(&[0, 1, 1, 1, 2, 2, 3, 3, 4, 5, 5])];
     let any = random.below(point.logicals.into()) as u8;
     let logical = random.of(&[0, 0, 1 % point.logicals, point.logicals - 1, any]);
     let parameter = random.below(point.rows.len()) as u8;
     let found = point.parameter(Logical(logical), Parameter(parameter));
     found.expect("both are in the point type")
+}
+
+/// A parameter of type 124's pairs, in few logicals so that both of a pair are
+/// written.
+fn paired(random: &mut Random) -> Found {
+    let logical = random.of(&[0, 1, 1, 12]);
+    let parameter = random.of(&[1, 3, 4, 5, 6, 12]);
+    let found = POINTS[5].parameter(Logical(logical), Parameter(parameter));
+    found.expect("both are in type 124")
 }
 
 /// A parameter of a sort, if one was met.
