@@ -1,6 +1,7 @@
 //! The differential test: sequences of calls at random, made on the archive and
 //! on the reference, with every answer and every byte of every buffer compared.
 
+pub mod cases;
 pub mod difference;
 pub mod gateway;
 pub mod generate;

@@ -13,11 +13,22 @@ use reference::clock::Clock;
 use reference::store::STORE_LENGTH;
 
 use crate::random::Random;
-use crate::step::{Call, Step};
+use crate::step::{Call, Request, Step};
 use crate::unit::{Unit, SPARE};
 
 /// The most steps of a sequence; the least are an eighth of it.
 const LONGEST: usize = 64;
+
+/// A request for a unit as it stands, now and then one that sets up a table.
+pub fn request(random: &mut Random, own: [u8; 2], unit: &Unit) -> Option<Request> {
+    if random.percent(90) {
+        return Some(frames::request(random, own, unit));
+    }
+    match table::set_up(random, own) {
+        Call::Request(request) => Some(request),
+        _ => None,
+    }
+}
 
 /// The steps of one sequence, made one after the other.
 #[derive(Clone, Debug)]
