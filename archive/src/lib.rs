@@ -1,11 +1,18 @@
 //! The proved library as firmware links it: the five calls of
 //! `include/tyurkanim.h` with slices in place of pointers and lengths.
 //!
-//! The header's rules for all calls are that a pointer is not null, a buffer has
-//! the length that is passed with it, and the buffers of one call do not
-//! overlap. Slices keep all three, which is why each call below is safe.
+//! The archive is for x86-64. There it is linked; on another machine it is made
+//! part of a small program that runs under an emulator, and the calls go there.
 
-mod c;
+#[cfg(linked)]
+mod linked;
+#[cfg(linked)]
+use linked as reached;
+
+#[cfg(not(linked))]
+mod bridged;
+#[cfg(not(linked))]
+use bridged as reached;
 
 /// What a result that a call writes through a pointer holds before the call, so
 /// that one that was not written can be told.
@@ -26,22 +33,8 @@ pub fn request(
     reply: &mut [u8],
 ) -> (u8, u16) {
     let mut length = u16::from_le_bytes([UNTOUCHED; 2]);
-    // SAFETY: slices keep the header's rules, see above.
-    let outcome = unsafe {
-        c::tyurkanim_request(
-            frame.as_ptr(),
-            frame.len(),
-            store.as_mut_ptr(),
-            store.len(),
-            clock.as_mut_ptr(),
-            unit,
-            group,
-            level,
-            reply.as_mut_ptr(),
-            reply.len(),
-            &mut length,
-        )
-    };
+    let numbers = [unit, group, level];
+    let outcome = reached::request(frame, store, clock, numbers, reply, &mut length);
     (outcome, length)
 }
 
@@ -53,30 +46,17 @@ pub fn system_write(
     parameter: u8,
     value: &[u8],
 ) -> u8 {
-    // SAFETY: slices keep the header's rules, see above.
-    unsafe {
-        c::tyurkanim_system_write(
-            store.as_mut_ptr(),
-            store.len(),
-            point_type,
-            logical,
-            parameter,
-            value.as_ptr(),
-            value.len(),
-        )
-    }
+    reached::system_write(store, [point_type, logical, parameter], value)
 }
 
 /// Fills the store with the defaults.
 pub fn fill(store: &mut [u8]) -> u8 {
-    // SAFETY: slices keep the header's rules, see above.
-    unsafe { c::tyurkanim_fill(store.as_mut_ptr(), store.len()) }
+    reached::fill(store)
 }
 
 /// Moves the clock on by one second.
 pub fn tick(clock: &mut [u8; 7]) -> u8 {
-    // SAFETY: slices keep the header's rules, see above.
-    unsafe { c::tyurkanim_tick(clock.as_mut_ptr()) }
+    reached::tick(clock)
 }
 
 /// A number read that was refused.
@@ -96,18 +76,8 @@ pub fn number_read(
     parameter: u8,
 ) -> Result<(u8, u64), Refusal> {
     let (mut kind, mut bits) = BEFORE;
-    // SAFETY: slices keep the header's rules, see above.
-    let outcome = unsafe {
-        c::tyurkanim_number_read(
-            store.as_ptr(),
-            store.len(),
-            point_type,
-            logical,
-            parameter,
-            &mut kind,
-            &mut bits,
-        )
-    };
+    let tlp = [point_type, logical, parameter];
+    let outcome = reached::number_read(store, tlp, &mut kind, &mut bits);
     if outcome == 0 {
         Ok((kind, bits))
     } else {

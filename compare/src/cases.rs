@@ -1,8 +1,4 @@
 //! The files of the program `cases`: requests to run, and what it is to write.
-//!
-//! A request is a record of 272 bytes, as in the captures that document 02 has
-//! run again: level, a zero, the frame's length in two bytes, 263 bytes with the
-//! frame at their start, five zeros.
 
 use std::collections::BTreeMap;
 
@@ -12,14 +8,13 @@ use crate::gateway::Reference;
 use crate::generate::{self, frames};
 use crate::hex::hex;
 use crate::random::Random;
+use crate::record::{record, OWN};
 use crate::step::{Call, Request, Step};
 use crate::unit::{Answer, Unit};
 
 /// The program's folder, from the repository's root.
 pub const FOLDER: &str = "crates.pending/cases";
 
-/// The station's address in every case.
-const OWN: [u8; 2] = [1, 2];
 /// What the frames are made from.
 const SEED: u64 = 2026;
 /// How many are looked at.
@@ -144,12 +139,4 @@ fn fresh() -> Unit {
 fn ask(unit: &mut Unit, request: &Request) -> Answer {
     unit.take(&Reference, &Step::new(Call::Tick));
     unit.take(&Reference, &Step::new(Call::Request(request.clone())))
-}
-
-fn record(request: &Request) -> Vec<u8> {
-    let [low, high] = (request.frame.len() as u16).to_le_bytes();
-    let mut record = vec![request.level, 0, low, high];
-    record.extend(&request.frame);
-    record.resize(4 + LONGEST + 5, 0);
-    record
 }

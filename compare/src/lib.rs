@@ -8,6 +8,7 @@ pub mod generate;
 pub mod hex;
 pub mod pairs;
 pub mod random;
+pub mod record;
 pub mod rows;
 pub mod run;
 pub mod shrink;

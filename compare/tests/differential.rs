@@ -4,7 +4,7 @@ use compare::gateway::{Archive, Reference};
 use compare::run::run;
 
 const SEED: u64 = 2026;
-const CALLS: u64 = 500_000;
+const CALLS: u64 = 300_000;
 
 #[test]
 fn the_archive_answers_as_the_reference() {
