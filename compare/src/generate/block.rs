@@ -1,6 +1,6 @@
 //! The data of opcodes 166 and 167.
 
-use reference::points::{Count, Found, Parameter};
+use reference::points::{Found, Parameter};
 use reference::store::Store;
 
 use super::frames::{MOST_DATA, ODD_COUNTS};
@@ -11,81 +11,52 @@ use crate::random::Random;
 /// Opcode 167: type, logical, count, start.
 pub fn read(random: &mut Random, level: u8) -> Vec<u8> {
     let good = random.percent(90);
-    let first = tlps::such(random, |found| readable(found, level) == good);
-    let first = first.unwrap_or_else(|| tlps::existing(random));
-    let rest = first.point.rows.len() - usize::from(first.parameter.0);
+    let first = tlps::preferably(random, |found| readable(found, level) == good);
+    let following = following(first);
+    let rest = following.len();
     let some = 1 + random.below(rest);
-    let full = fitting(&following(first), |_| true);
-    let count = random.of(&[1, some, some, full, rest.min(full + 1), rest]) as u8;
-    let odd = name(random, first, count, rest as u8);
-    odd.unwrap_or_else(|| named(first, Count(count))).to_vec()
+    let full = fitting(&following, |_| true);
+    let count = random.of(&[1, some, some, full, rest.min(full + 1), rest]);
+    name(random, first, count as u8, rest as u8).to_vec()
 }
 
 /// Opcode 166: the same, then values.
 pub fn write(random: &mut Random, store: &Store, level: u8) -> Vec<u8> {
-    let first = tlps::such(random, |found| writable(found, level));
-    let first = first.unwrap_or_else(|| tlps::existing(random));
+    let first = tlps::preferably(random, |found| writable(found, level));
     let following = following(first);
     let run = fitting(&following, |found| writable(found, level));
     let some = 1 + random.below(run);
-    let count = random.of(&[1, some, some, run]);
-    let mut values = Vec::new();
-    let any = random.below(count);
-    let fault = random.of(&[count, count, count, any]);
-    for (number, &found) in following.iter().enumerate().take(count + 1) {
-        values.push(if number == fault {
-            values::bad(random, found, store)
-        } else {
-            values::good(random, found, store)
-        });
-    }
-    // With one more value than were found to fit, it is read-only or missing.
-    let more = random.percent(8);
-    let count = count + usize::from(more);
-    let named = if more {
-        named(first, Count(count as u8))
+    // The one behind those that fit is read-only, missing or too long.
+    let count = if random.percent(8) {
+        run + 1
     } else {
-        let odd = name(random, first, count as u8, following.len() as u8);
-        odd.unwrap_or_else(|| named(first, Count(count as u8)))
+        random.of(&[1, some, some, run])
     };
-    let mut data = named.to_vec();
-    values
-        .iter()
-        .take(count)
-        .for_each(|value| data.extend(value));
+    let fault = random.percent(25).then(|| random.below(count));
+    let mut data = name(random, first, count as u8, following.len() as u8).to_vec();
+    for (number, &found) in following.iter().enumerate().take(count) {
+        data.extend(values::of(random, found, store, Some(number) != fault));
+    }
     data.truncate(MOST_DATA);
     data
 }
 
-/// Now and then the four bytes of a block that is not quite there.
-fn name(random: &mut Random, first: Found, count: u8, rest: u8) -> Option<[u8; 4]> {
-    let odd = random.of(&ODD_COUNTS);
+/// The four bytes that name a block, now and then one that is not quite there.
+fn name(random: &mut Random, first: Found, count: u8, rest: u8) -> [u8; 4] {
+    let [t, l, start] = tlps::tlp(first);
+    let other = match random.below(25) {
+        0 => tlps::missing(random),
+        1 => tlps::tlp(tlps::existing(random)),
+        _ => [t, l, start],
+    };
     match random.below(25) {
-        0 => {
-            let [t, l, p] = tlps::missing(random);
-            Some([t, l, count, p])
-        }
-        1 => Some(named(first, Count(0))),
-        2 => Some(named(first, Count(rest + 1))),
-        3 => Some(named(first, Count(odd))),
-        4 => {
-            let [t, l, p] = tlps::tlp(tlps::existing(random));
-            Some([t, l, count, p])
-        }
-        // Start and count traded.
-        5 => Some([
-            first.point.point_type.0,
-            first.logical.0,
-            first.parameter.0,
-            count,
-        ]),
-        _ => None,
+        0 => [t, l, 0, start],
+        1 => [t, l, rest + 1, start],
+        2 => [t, l, random.of(&ODD_COUNTS), start],
+        // The easy slip: start and count traded.
+        3 => [t, l, start, count],
+        _ => [other[0], other[1], count, other[2]],
     }
-}
-
-const fn named(first: Found, Count(count): Count) -> [u8; 4] {
-    let Parameter(start) = first.parameter;
-    [first.point.point_type.0, first.logical.0, count, start]
 }
 
 /// A parameter and those behind it in its logical.

@@ -49,10 +49,8 @@ pub fn write(random: &mut Random, store: &Store, level: u8) -> Vec<u8> {
         let Some(found) = found else {
             return [&tlps::missing(random), &[0; 4][..]].concat();
         };
-        let value = match fault {
-            2 | 3 if !wanted.good => values::bad(random, found, store),
-            _ => values::good(random, found, store),
-        };
+        let is_good = wanted.good || !matches!(fault, 2 | 3);
+        let value = values::of(random, found, store, is_good);
         [&tlps::tlp(found), &value[..]].concat()
     })
 }

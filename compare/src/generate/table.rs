@@ -31,11 +31,7 @@ pub fn write(random: &mut Random, store: &Store) -> Vec<u8> {
         let Some(found) = at(store, table, usize::from(start) + number) else {
             break;
         };
-        data.extend(if Some(number) == fault {
-            values::bad(random, found, store)
-        } else {
-            values::good(random, found, store)
-        });
+        data.extend(values::of(random, found, store, Some(number) != fault));
     }
     data.truncate(MOST_DATA);
     data

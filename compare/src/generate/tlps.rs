@@ -36,6 +36,11 @@ pub fn such(random: &mut Random, wanted: impl Fn(&Found) -> bool) -> Option<Foun
     (0..TRIES).map(|_| existing(random)).find(wanted)
 }
 
+/// A parameter of a sort, or any if none was met.
+pub fn preferably(random: &mut Random, wanted: impl Fn(&Found) -> bool) -> Found {
+    such(random, wanted).unwrap_or_else(|| existing(random))
+}
+
 /// A TLP that exists but for one of its numbers.
 pub fn missing(random: &mut Random) -> Tlp {
     let found = existing(random);

@@ -14,7 +14,8 @@ pub fn system_write(random: &mut Random, store: &Store) -> (Tlp, Vec<u8>) {
         return (tlps::missing(random), random.bytes(length));
     }
     let found = tlps::existing(random);
-    let mut value = any(random, found, store);
+    let is_good = random.percent(75);
+    let mut value = of(random, found, store, is_good);
     if random.percent(8) {
         let length = value.len();
         let length = random.of(&[0, length - 1, length + 1, 255]);
@@ -23,17 +24,17 @@ pub fn system_write(random: &mut Random, store: &Store) -> (Tlp, Vec<u8>) {
     (tlps::tlp(found), value)
 }
 
-/// A value of the row's length, mostly a good one.
-pub fn any(random: &mut Random, found: Found, store: &Store) -> Vec<u8> {
-    if random.percent(75) {
+/// A value of the row's length: good as far as the store leaves one, or bad as
+/// far as there is one.
+pub fn of(random: &mut Random, found: Found, store: &Store, is_good: bool) -> Vec<u8> {
+    if is_good {
         good(random, found, store)
     } else {
         bad(random, found, store)
     }
 }
 
-/// A value in its range, if the store leaves one.
-pub fn good(random: &mut Random, found: Found, store: &Store) -> Vec<u8> {
+fn good(random: &mut Random, found: Found, store: &Store) -> Vec<u8> {
     let row = found.row;
     match row.range {
         Range::Printable => text(random, row),
@@ -54,8 +55,7 @@ pub fn good(random: &mut Random, found: Found, store: &Store) -> Vec<u8> {
     }
 }
 
-/// A value outside its range, unless every value is in it.
-pub fn bad(random: &mut Random, found: Found, store: &Store) -> Vec<u8> {
+fn bad(random: &mut Random, found: Found, store: &Store) -> Vec<u8> {
     let row = found.row;
     match row.range {
         Range::Printable => {
