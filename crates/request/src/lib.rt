@@ -1,4 +1,4 @@
-// A request, whole: refused without a byte, or done and answered.
+// What a request that is received comes to: its opcode carried out, and the frame of an error.
 ghost use mathlib.Core.Path.{_≡_};
 ghost use mathlib.Core.List.{_∷_, []};
 ghost use Prim.Native.Nat.{_≤_};
@@ -12,7 +12,15 @@ use frame::Address;
 use opcodes::Done;
 
 // What the opcode asks, done: 20 where it is not served.
-fn act(op: u8, level: u8, d: &[u8], store: &mut [u8], clock: &mut [u8], aloud: bool, reply: &mut [u8]) -> Done
+fn act(
+    op: u8,
+    level: u8,
+    d: &[u8],
+    store: &mut [u8],
+    clock: &mut [u8],
+    aloud: bool,
+    reply: &mut [u8],
+) -> Done
     requires { ⌜ Acting (now d) (now store) (now clock) (now reply) ⌝ }
     ensures { λ r. ⌜ Acted aloud (now (store .entry)) (now (store .exit)) (now (clock .entry)) (now (clock .exit)) (now (reply .entry)) (now (reply .exit)) r
         (plan gateway (opcodeOf op) level (record { store = now (store .entry); clock = now (clock .entry) }) (now (d .entry))) ⌝ }
