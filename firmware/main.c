@@ -11,7 +11,5 @@ int main(int argc, char **argv)
     struct arguments arguments = arguments_read(argc, argv);
     setvbuf(stdout, NULL, _IOLBF, 0); /* each line is seen when it is written, in a file or a pipe too */
     int status = server_start(&server, &arguments);
-    if (status == EXIT_SUCCESS)
-        server_run(&server);
-    return status;
+    return status == EXIT_SUCCESS ? server_run(&server) : status;
 }

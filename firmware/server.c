@@ -118,8 +118,8 @@ static void take_connection(struct server *server, int64_t now)
     line_open(line, connection, name, server->arguments.verbose, now);
 }
 
-/* Waits until a line, the listener, a deadline or the clock's next second has something to do. */
-static void wait_for_work(const struct server *server, struct pollfd *polled, int64_t now)
+/* Waits until a line, the listener, a deadline or the clock's next second has something to do. False if it cannot wait. */
+static bool wait_for_work(const struct server *server, struct pollfd *polled, int64_t now)
 {
     int64_t deadline = unit_next_second(&server->unit);
     for (size_t i = 0; i < SERVER_LINES; i++) {
@@ -135,28 +135,34 @@ static void wait_for_work(const struct server *server, struct pollfd *polled, in
 
     int64_t left = deadline > now ? deadline - now : 0;
     struct timespec timeout = {.tv_sec = left / SECOND, .tv_nsec = left % SECOND * 1000000};
-    if (ppoll(polled, SERVER_LINES + 1, &timeout, &server->waiting_mask) < 0) {
-        for (size_t i = 0; i <= SERVER_LINES; i++)
-            polled[i].revents = 0;
-    }
+    return ppoll(polled, SERVER_LINES + 1, &timeout, &server->waiting_mask) >= 0;
 }
 
-void server_run(struct server *server)
+static void take_turns(struct server *server, const struct pollfd *polled, int64_t now)
+{
+    bool new_second = unit_next_second(&server->unit) <= now;
+    unit_pass(&server->unit, now);
+    for (size_t i = 0; i < SERVER_LINES; i++) {
+        if (line_is_open(&server->lines[i]))
+            line_turn(&server->lines[i], polled[i].revents, &server->unit, now);
+    }
+    if (polled[SERVER_LINES].revents & POLLIN)
+        take_connection(server, now);
+    /* A serial device that was unplugged may come back. */
+    if (new_second && server->arguments.serial != NULL && !line_is_open(&server->lines[SERIAL]))
+        open_serial(server, now);
+}
+
+int server_run(struct server *server)
 {
     struct pollfd polled[SERVER_LINES + 1];
     while (!asked_to_end) {
-        wait_for_work(server, polled, moment_now());
-        int64_t now = moment_now();
-        bool new_second = unit_next_second(&server->unit) <= now;
-        unit_pass(&server->unit, now);
-        for (size_t i = 0; i < SERVER_LINES; i++) {
-            if (line_is_open(&server->lines[i]))
-                line_turn(&server->lines[i], polled[i].revents, &server->unit, now);
+        if (wait_for_work(server, polled, moment_now())) {
+            take_turns(server, polled, moment_now());
+        } else if (errno != EINTR) {
+            fprintf(stderr, "tyurkanim: cannot wait for %d lines: %s\n", SERVER_LINES, strerror(errno));
+            return EXIT_FAILURE;
         }
-        if (polled[SERVER_LINES].revents & POLLIN)
-            take_connection(server, now);
-        /* A serial device that was unplugged may come back. */
-        if (new_second && server->arguments.serial != NULL && !line_is_open(&server->lines[SERIAL]))
-            open_serial(server, now);
     }
+    return EXIT_SUCCESS;
 }

@@ -21,7 +21,7 @@ struct server {
 /* Makes the unit and opens what the arguments name, and says where it listens. 0, or the status to end the program with. */
 int server_start(struct server *server, const struct arguments *arguments);
 
-/* Serves until SIGTERM or SIGINT. */
-void server_run(struct server *server);
+/* Serves until SIGTERM or SIGINT, and gives the status to end the program with. */
+int server_run(struct server *server);
 
 #endif

@@ -43,6 +43,17 @@ fn one_more() {
     gateway.stop(SIGTERM);
 }
 
+/// Fewer than it would hold, since it may open no more: place is made all the
+/// same.
+#[test]
+fn few_files() {
+    let gateway = Gateway::with_few_files(19);
+    let hosts: Vec<_> = (0..3 * MOST).map(|_| gateway.host()).collect();
+    let mut last = Pair::new(hosts.into_iter().last().unwrap(), 3);
+    last.check_silent();
+    gateway.stop(SIGTERM);
+}
+
 /// Clients that close before they have read: what they asked for is done, and
 /// nobody else notices.
 #[test]

@@ -1,7 +1,7 @@
 //! Garbage and floods: nothing is stored, no memory is taken, and the next
 //! request is answered.
 
-use crate::gateway::{Gateway, SILENCE};
+use crate::gateway::{Gateway, LONG, SILENCE};
 use crate::libc::{pseudo_terminal, SIGTERM};
 use crate::pair::{ask, Pair};
 use crate::random::Random;
@@ -9,7 +9,7 @@ use crate::serial;
 use crate::unit::Unit;
 use std::io::{ErrorKind, Read, Write};
 use std::net::{Shutdown, TcpStream};
-use std::time::Duration;
+use std::time::{Duration, Instant};
 
 /// What resident memory may grow by, in kilobytes: some pages that were never
 /// touched before, no buffer for each frame or client.
@@ -168,10 +168,16 @@ fn idle() {
     let read = ask(167, &[98, 0, 56, 0]);
     while stuck.write_all(&read).is_ok() {}
     drop(end);
-    std::thread::sleep(SILENCE);
-    let before = gateway.processor_time();
-    std::thread::sleep(Duration::from_secs(2));
-    let taken = gateway.processor_time() - before;
-    assert!(taken < 20, "{taken} hundredths of two seconds");
+    // Once it has answered all that came it rests.
+    let until = Instant::now() + LONG;
+    loop {
+        let before = gateway.processor_time();
+        std::thread::sleep(Duration::from_secs(1));
+        let taken = gateway.processor_time() - before;
+        if taken < 10 {
+            break;
+        }
+        assert!(Instant::now() < until, "{taken} hundredths of a second");
+    }
     gateway.stop(SIGTERM);
 }

@@ -6,7 +6,7 @@ use poll::{Host, Line};
 use std::fs;
 use std::io::{BufRead, BufReader};
 use std::net::TcpStream;
-use std::path::PathBuf;
+use std::path::{Path, PathBuf};
 use std::process::{Child, ChildStdout, Command, ExitStatus, Stdio};
 use std::time::{Duration, Instant};
 
@@ -23,36 +23,49 @@ pub struct Gateway {
     pub address: String,
 }
 
-/// The program, with some arguments.
-pub fn program(arguments: &[&str]) -> Command {
+/// The program's path.
+fn path() -> PathBuf {
+    let built = "/../build/firmware/tyurkanim-sanitized";
     let path = std::env::var_os("TYURKANIM").map_or_else(
-        || {
-            PathBuf::from(concat!(
-                env!("CARGO_MANIFEST_DIR"),
-                "/../build/firmware/tyurkanim-sanitized"
-            ))
-        },
+        || PathBuf::from(env!("CARGO_MANIFEST_DIR").to_string() + built),
         PathBuf::from,
     );
-    assert!(
-        path.exists(),
-        "no {}: tools/build-gateway makes it",
-        path.display()
-    );
+    let shown = path.display();
+    assert!(path.exists(), "no {shown}: tools/build-gateway makes it");
+    path
+}
+
+/// The program, or something that runs it.
+fn command(path: &Path) -> Command {
     let mut command = Command::new(path);
     // It allocates nothing while it serves, and the search for leaks at its
     // end takes seconds.
+    command.env("ASAN_OPTIONS", "detect_leaks=0");
     command
-        .env("ASAN_OPTIONS", "detect_leaks=0")
-        .args(arguments);
-    command
+}
+
+/// The program, with some arguments.
+pub fn program(arguments: &[&str]) -> Command {
+    let mut program = command(&path());
+    program.args(arguments);
+    program
 }
 
 impl Gateway {
     /// Starts a gateway on a free port.
     pub fn start(arguments: &[&str]) -> Self {
-        let mut process = program(&["--port", "0"])
-            .args(arguments)
+        Self::begin(program(&["--port", "0"]).args(arguments))
+    }
+
+    /// Starts a gateway that may have so many files open.
+    pub fn with_few_files(most: u8) -> Self {
+        let limited = format!("ulimit -n {most}; exec \"$0\" --port 0");
+        let mut shell = command(Path::new("/bin/sh"));
+        Self::begin(shell.args(["-c", &limited]).arg(path()))
+    }
+
+    fn begin(command: &mut Command) -> Self {
+        let mut process = command
             .stdout(Stdio::piped())
             .spawn()
             .expect("the gateway starts");
