@@ -21,7 +21,7 @@ static uint8_t record[RECORD];
 
 static ucontext_t here, there;
 
-static void request(void)
+static void call_request(void)
 {
     uint16_t length;
     caller = __builtin_frame_address(0);
@@ -29,26 +29,26 @@ static void request(void)
                                 sizeof reply, &length);
 }
 
-static void system_write(void)
+static void call_system_write(void)
 {
     static const uint8_t entries[2] = {72, 3};
     caller = __builtin_frame_address(0);
     outcome = tyurkanim_system_write(store, sizeof store, 124, 1, 3, entries, sizeof entries);
 }
 
-static void fill(void)
+static void call_fill(void)
 {
     caller = __builtin_frame_address(0);
     outcome = tyurkanim_fill(store, sizeof store);
 }
 
-static void tick(void)
+static void call_tick(void)
 {
     caller = __builtin_frame_address(0);
     outcome = tyurkanim_tick(clock_bytes);
 }
 
-static void number_read(void)
+static void call_number_read(void)
 {
     uint8_t kind;
     uint64_t bits;
@@ -80,12 +80,12 @@ static long depth(void (*call)(void))
 
 int main(void)
 {
-    long filling = depth(fill);
+    long filling = depth(call_fill);
     while (fread(record, sizeof record, 1, stdin) == 1)
-        printf("%ld\n", depth(request));
+        printf("%ld\n", depth(call_request));
     printf("fill\t%ld\n", filling);
-    printf("system write\t%ld\n", depth(system_write));
-    printf("tick\t%ld\n", depth(tick));
-    printf("number read\t%ld\n", depth(number_read));
+    printf("system write\t%ld\n", depth(call_system_write));
+    printf("tick\t%ld\n", depth(call_tick));
+    printf("number read\t%ld\n", depth(call_number_read));
     return 0;
 }
