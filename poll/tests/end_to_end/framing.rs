@@ -1,6 +1,6 @@
 //! Frames split, joined and with noise between them.
 
-use crate::gateway::Gateway;
+use crate::gateway::{Gateway, SILENCE};
 use crate::libc::SIGTERM;
 use crate::pair::{ask, Pair};
 use crate::random::Random;
@@ -9,7 +9,7 @@ use poll::request::frame;
 use reference::frame::Address;
 use std::io::Write;
 use std::thread::sleep;
-use std::time::Duration;
+use std::time::{Duration, Instant};
 
 fn requests() -> Vec<Vec<u8>> {
     vec![
@@ -43,10 +43,18 @@ fn byte_by_byte() {
     let mut slow = Pair::new(gateway.host(), 3);
     let mut fast = Pair::new(gateway.host(), 3);
     let request = ask(180, &[2, 98, 0, 33, 124, 0, 7]);
-    for byte in &request {
-        slow.host.send(&[*byte]).unwrap();
-        fast.check(&request);
-        sleep(Duration::from_millis(60));
+    // A busy machine may make a pause that is silence to the gateway.
+    let mut longest = SILENCE;
+    while longest >= SILENCE / 2 {
+        sleep(SILENCE);
+        longest = Duration::ZERO;
+        for byte in &request {
+            let before = Instant::now();
+            slow.host.send(&[*byte]).unwrap();
+            fast.check(&request);
+            sleep(Duration::from_millis(60));
+            longest = longest.max(before.elapsed());
+        }
     }
     slow.check_sent(&request);
     gateway.stop(SIGTERM);
