@@ -1,2 +1,4 @@
 pub mod Acting
 pub mod Errors
+pub mod Finished
+pub mod Performed
