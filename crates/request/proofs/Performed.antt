@@ -71,9 +71,9 @@ module _ (a : Asked) (h : Held) (r : List ℕ) where
       let len : length v ≡ n = told-length gateway (a .level) (h .store) (k .whole-store) (d .says) (l .says) in
       let here : r₁ ≡ put r 6 v = q .space ∙ simp t in
       let all : over r₁ (frameOf (source (a .frame)) (a .us) (opcode (a .frame)) (part r₁ 6 n)) ≡ over r (frameOf (source (a .frame)) (a .us) (opcode (a .frame)) v) =
-          answered r r₁ _ v (source (a .frame)) (a .us) (opcode (a .frame)) n len (omega (arith, k .room, l .short (k .seven))) here refl in
+      answered r r₁ _ v (source (a .frame)) (a .us) (opcode (a .frame)) n len (omega (arith, k .room, l .short (k .seven))) here refl in
       let many : n + 8 ≡ length (frameOf (source (a .frame)) (a .us) (opcode (a .frame)) v) =
-          ap (λ (m : ℕ). m + 8) (sym len) ∙ sym (length-frame (source (a .frame)) (a .us) (opcode (a .frame)) v) in
+      ap (λ (m : ℕ). m + 8) (sym len) ∙ sym (length-frame (source (a .frame)) (a .us) (opcode (a .frame)) v) in
       simp (q .answer, q .store, q .clock, t)
       (ap₂ (λ (m : ℕ) (x : List ℕ). record { outcome = 0; count = m; store = stored gateway (h .store) (d .puts); clock = d .clock; reply = x }) many all)
 

@@ -6,6 +6,7 @@ ghost use lib.ListN.{length};
 ghost use Rattle.base.specs.Lists.{over};
 ghost use Rattle.points.specs.Types.{gateway};
 ghost use Rattle.frame.specs.Frame.{frameOf};
+ghost use Rattle.rules.specs.Answer.{answer};
 ghost use Rattle.rules.specs.Opcodes.{opcodeOf, plan};
 ghost use Rattle.request.specs.Acted.{Acting, Acted};
 ghost use Rattle.request.specs.Performed.{Finishing, finished, Performing, endedAs, performed};
@@ -109,4 +110,26 @@ fn perform(
     let n = base::wide(f[5]);
     let done = act(f[4], level, &f[6..n + 6], store, clock, aloud, reply);
     finish(done, f[4], to, us, aloud, reply)
+}
+
+// The whole call: outcomes 1 to 8 leave every buffer as it is; a request that is received is performed.
+pub fn request(
+    us: Address,
+    level: u8,
+    f: &[u8],
+    store: &mut [u8],
+    clock: &mut [u8; 7],
+    reply: &mut [u8],
+) -> Ended
+    ensures { λ r. ⌜ endedAs r (now (store .exit)) (now (clock .exit)) (now (reply .exit))
+        ≡ answer gateway (record { frame = now (f .entry); us = us; level = level }) (record { store = now (store .entry); clock = now (clock .entry) }) (now (reply .entry)) ⌝ }
+{
+    let n = received::refused(us, level, f, &clock[..], store.len(), reply.len());
+    if n == 0 {
+        return perform(us, level, f, store, &mut clock[..], reply);
+    }
+    Ended {
+        outcome: n,
+        count: 0,
+    }
 }
