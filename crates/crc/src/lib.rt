@@ -1,6 +1,6 @@
 // CRC-16, worked four bits at a time from a table of 16.
 ghost use mathlib.Core.Path.{_≡_};
-ghost use Rattle.crc.specs.Crc.{turns4, crcByte, crcOf, crcFrom};
+ghost use Rattle.crc.specs.Crc.{turns4, turned, crcByte, crcOf, crcFrom};
 
 const TABLE: [u16; 16] = [
     0x0000,
@@ -21,29 +21,33 @@ const TABLE: [u16; 16] = [
     0x4400,
 ];
 
-// Four turns of the register at once.
-fn nibble(c: u16) -> u16
+// Four turns of the register at once. The table is handed in, so that a loop has it made once.
+fn nibble(table: &[u16; 16], c: u16) -> u16
+    requires { ⌜ now table ≡ turned ⌝ }
     ensures { λ r. ⌜ r ≡ turns4 c ⌝ }
 {
     let i = (c % 16) as usize;
-    (c / 16) ^ TABLE[i]
+    (c / 16) ^ table[i]
 }
 
 // The register after one more byte.
-fn byte(c: u16, b: u8) -> u16
+fn byte(table: &[u16; 16], c: u16, b: u8) -> u16
+    requires { ⌜ now table ≡ turned ⌝ }
     ensures { λ r. ⌜ r ≡ crcByte c b ⌝ }
 {
-    nibble(nibble(c ^ (b as u16)))
+    let low = nibble(table, c ^ (b as u16));
+    nibble(table, low)
 }
 
 // The CRC of all of s.
 pub fn crc16(s: &[u8]) -> u16
     ensures { λ r. ⌜ r ≡ crcOf (now (s .entry)) ⌝ }
 {
+    let table = TABLE;
     let mut c: u16 = 0;
     let mut i = 0;
     while i < s.len() {
-        c = byte(c, s[i]);
+        c = byte(&table, c, s[i]);
         i += 1;
     }
     c

@@ -8,15 +8,15 @@ use native.Mathlib.Omega.{arith}
 use lib.ListN.{length, drop, getD, drop-of-length-le}
 use lib.Seq.{drop-cons}
 use borrow.Author.Needs.{needs}
-use Rattle.crc.specs.Crc.{crcByte, crcFrom, crcOf}
+use Rattle.crc.specs.Crc.{turned, crcByte, crcFrom, crcOf}
 use Rattle.crc.proofs.crc16.Statement.{statement}
 use Rattle.crc.proofs.crc16.Tie as tie
 
 abbrev Inv-loop : tie.InvT-loop
-Inv-loop s c₀ i₀ c i = (i ≤ length s) × (crcFrom c (drop i s) ≡ crcOf s)
+Inv-loop s table c₀ i₀ c i = (i ≤ length s) × (crcFrom c (drop i s) ≡ crcOf s)
 
 abbrev μ-loop : tie.MeasureT-loop
-μ-loop s c₀ i₀ c i = length s - i
+μ-loop s table c₀ i₀ c i = length s - i
 
 -- one byte more
 next : (s : List ℕ) (i c : ℕ) → i < length s → crcFrom c (drop i s) ≡ crcFrom (crcByte c (getD s i 0)) (drop (i + 1) s)
@@ -36,7 +36,8 @@ shared-slice-read-byte : tie.Need-shared-slice-read-byte Inv-loop μ-loop
 shared-slice-read-byte c = omega arith
 
 byte-requires : tie.Need-byte-requires Inv-loop μ-loop
-byte-requires c κs = search needs
+unfolding turned
+byte-requires c κs = refl
 
 add-i : tie.Need-add-i Inv-loop μ-loop
 add-i c = omega arith
@@ -46,8 +47,8 @@ loop-less c = omega arith
 
 loop-again : tie.Need-loop-again Inv-loop μ-loop
 loop-again c =
-    let l = c .before .before .before .loop in
-    (omega arith, cc (next (c .before .before .before .before .before .args .s .now) (l .i) (l .c) (omega arith)))
+    let l = c .before .before .before .before .loop in
+    (omega arith, cc (next (c .before .before .before .before .before .before .args .s .now) (l .i) (l .c) (omega arith)))
 
 returns : tie.Need-returns Inv-loop μ-loop
 returns c = cc (ended (c .before .before .before .args .s .now) (c .before .loop .i) (c .before .loop .c) (omega arith))
