@@ -1,6 +1,7 @@
 -- The rows of all types as one list, and its columns: what the constant tables of the code hold.
 -- Assumes nothing.
-use Prim.Native.Nat.{ℕ, _+_, _-_, _^_}
+use Prim.Native.Nat.{ℕ, _+_, _-_, _^_, _<_}
+use mathlib.Core.Path.{_≡_}
 use mathlib.Core.List.{List, [], _∷_, map}
 use lib.ListN.{length, getD, replicate}
 use Rattle.base.specs.Lists.{joined}
@@ -84,6 +85,19 @@ rowLeast r = leastOf (r .range)
 
 abbrev pub rowMost : Row → ℕ
 rowMost r = mostBy (r .kind) (r .range) (r .len)
+
+-- the bounds that occur: each pair of a least and a most once
+unfoldable pub leasts : List ℕ
+leasts = 0 ∷ 0 ∷ 0 ∷ 0 ∷ 240 ∷ 0 ∷ 0 ∷ 0 ∷ 0 ∷ []
+
+unfoldable pub mosts : List ℕ
+mosts = 0 ∷ 1 ∷ 23 ∷ 240 ∷ 240 ∷ 255 ∷ 65535 ∷ 224400 ∷ 4294967295 ∷ []
+
+-- b is the place of a row's own
+pub record Bounds (row b : ℕ) : Type 0 where
+  pub below : b < 9
+  pub least : getD leasts b 0 ≡ rowLeast (rowAt row)
+  pub most : getD mosts b 0 ≡ rowMost (rowAt row)
 
 -- the levels of a row's type
 abbrev pub readsOf : Point → List ℕ

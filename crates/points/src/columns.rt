@@ -1,12 +1,11 @@
 // The constant tables: a column each, by row. Those of the types stand here, by a type's index.
 pub mod access;
 pub mod beginnings;
+pub mod bounds;
 pub mod defaults;
 pub mod figures;
 pub mod kinds;
-pub mod leasts;
 pub mod lengths;
-pub mod mosts;
 pub mod ranges;
 pub mod read_levels;
 pub mod write_levels;

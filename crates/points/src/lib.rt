@@ -6,7 +6,7 @@ ghost use Prim.Native.Nat.{_+_, _<_, _≤_};
 ghost use lib.ListN.{getD};
 ghost use Rattle.points.specs.Types.{indexOf, point, height, logicals, gateway};
 ghost use Rattle.points.specs.Place.{first, base, each, placeOf, Here, spotOf};
-ghost use Rattle.points.specs.Columns.{rowAt, rowKind, rowAccess, rowRange, rowLeast, rowMost, rowDefault, rowFigure, readLevels, writeLevels, beginnings};
+ghost use Rattle.points.specs.Columns.{rowAt, rowKind, rowAccess, rowRange, rowLeast, rowMost, rowDefault, rowFigure, Bounds, readLevels, writeLevels, beginnings};
 
 // A point type, a logical, a parameter and a count are four kinds of number.
 pub struct PointType(pub u8);
@@ -61,18 +61,26 @@ pub fn range_at(row: usize) -> u8
     columns::ranges::RANGES[row]
 }
 
+// Which of the bounds that occur are a row's: a place in the two tables of them.
+fn bounds_at(row: usize) -> u8
+    requires { ⌜ row < 175 ⌝ }
+    ensures { λ r. ⌜ Bounds row r ⌝ }
+{
+    columns::bounds::BOUNDS[row]
+}
+
 pub fn least_at(row: usize) -> u32
     requires { ⌜ row < 175 ⌝ }
     ensures { λ r. ⌜ r ≡ rowLeast (rowAt row) ⌝ }
 {
-    columns::leasts::LEASTS[row]
+    columns::bounds::LEASTS[bounds_at(row) as usize]
 }
 
 pub fn most_at(row: usize) -> u32
     requires { ⌜ row < 175 ⌝ }
     ensures { λ r. ⌜ r ≡ rowMost (rowAt row) ⌝ }
 {
-    columns::mosts::MOSTS[row]
+    columns::bounds::MOSTS[bounds_at(row) as usize]
 }
 
 pub fn default_at(row: usize) -> u8

@@ -1,11 +1,15 @@
--- `points::least_at` meets its contract: the table is the column of the definition, by computation.
+-- `points::least_at` meets its contract: the table is the definition's.
 -- Assumes nothing.
 use borrow.Author.Needs.{needs}
-use lib.ListN.{List·getD-map}
-use Rattle.points.specs.Row.{noRow}
-use Rattle.points.specs.Columns.{allRows, rowAt, rowLeast}
+use Rattle.points.specs.Columns.{leasts}
 use Rattle.points.proofs.least_at.Statement.{statement}
 use Rattle.points.proofs.least_at.Tie as tie
+
+bounds-at-requires : tie.Need-bounds-at-requires
+bounds-at-requires c κs = search needs
+
+cast-result : tie.Need-cast-result
+cast-result c = search needs
 
 mul-result : tie.Need-mul-result
 mul-result c = search needs
@@ -14,8 +18,8 @@ array-read-result : tie.Need-array-read-result
 array-read-result c = search needs
 
 returns : tie.Need-returns
-unfolding rowAt
-returns c = List·getD-map rowLeast allRows (c .args .row) noRow
+unfolding leasts
+returns c = c .bounds-at .ensures .least
 
 pub least-at-spec : {M : Type 1} → statement M
-least-at-spec = tie.close (tie.spec mul-result array-read-result returns)
+least-at-spec = tie.close (tie.spec bounds-at-requires cast-result mul-result array-read-result returns)

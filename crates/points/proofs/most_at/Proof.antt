@@ -1,11 +1,15 @@
--- `points::most_at` meets its contract: the table is the column of the definition, by computation.
+-- `points::most_at` meets its contract: the table is the definition's.
 -- Assumes nothing.
 use borrow.Author.Needs.{needs}
-use lib.ListN.{List·getD-map}
-use Rattle.points.specs.Row.{noRow}
-use Rattle.points.specs.Columns.{allRows, rowAt, rowMost}
+use Rattle.points.specs.Columns.{mosts}
 use Rattle.points.proofs.most_at.Statement.{statement}
 use Rattle.points.proofs.most_at.Tie as tie
+
+bounds-at-requires : tie.Need-bounds-at-requires
+bounds-at-requires c κs = search needs
+
+cast-result : tie.Need-cast-result
+cast-result c = search needs
 
 mul-result : tie.Need-mul-result
 mul-result c = search needs
@@ -14,8 +18,8 @@ array-read-result : tie.Need-array-read-result
 array-read-result c = search needs
 
 returns : tie.Need-returns
-unfolding rowAt
-returns c = List·getD-map rowMost allRows (c .args .row) noRow
+unfolding mosts
+returns c = c .bounds-at .ensures .most
 
 pub most-at-spec : {M : Type 1} → statement M
-most-at-spec = tie.close (tie.spec mul-result array-read-result returns)
+most-at-spec = tie.close (tie.spec bounds-at-requires cast-result mul-result array-read-result returns)
