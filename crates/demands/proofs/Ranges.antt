@@ -24,7 +24,7 @@ use Rattle.rules.specs.System.{Left, systemWrite, fill}
 use Rattle.rules.proofs.InRange.{InRange, stored-in-range}
 use Rattle.rules.proofs.Answered.{Answered, unheard, refused, acted, answered, Written, unset, set-to, written, Filled, filled-up, unfilled, filled}
 use Rattle.demands.specs.Good.{NoLarger}
-use Rattle.demands.proofs.Planned.{six}
+use Rattle.points.proofs.Rows.{six}
 
 pub stays-in-range : (b : Build) (a : Asked) (h : Held) (r : List ℕ) → InRange b (h .store) → InRange b (answer b a h r .store)
 stays-in-range b a h r good = go (answered b a h r)

@@ -1,26 +1,24 @@
 -- The cases of a list read or written, under the facts that its check leaves.
 -- Assumes nothing.
-use Prim.Native.Nat.{ℕ, _≤_}
+use Prim.Native.Nat.{ℕ}
 use native.Mathlib.Omega.{arith}
 use mathlib.Core.Path.{_≡_, refl, sym, ap, _∙_}
 use mathlib.Core.Bool.{Bool, true, false, cond}
 use mathlib.Core.List.{List, []}
-use lib.ListN.{length, drop}
+use lib.ListN.{drop}
 use Rattle.base.specs.Check.{Check, fault, pass}
 use Rattle.base.specs.Lists.{put}
 use Rattle.points.specs.Types.{gateway}
 use Rattle.store.specs.Store.{Write, stored}
-use Rattle.rules.specs.Entries as rules
 use Rattle.rules.specs.Entries.{request, system}
 use Rattle.rules.specs.Deeds.{Piece, told, sizes}
 use Rattle.rules.specs.Lists.{writing}
 use Rattle.lists.specs.Walks.{callerOf, sourceAt}
-use Rattle.lists.specs.declared.Caller.{Caller}
 use Rattle.lists.specs.declared.Source.{Source}
 use Rattle.lists.specs.declared.Checked.{Checked}
 use Rattle.lists.specs.declared.Checked.the-variants as checked
 use Rattle.reads.specs.Listed as reads
-use Rattle.reads.specs.Listed.{listed, Readable}
+use Rattle.reads.specs.Listed.{listed}
 use Rattle.reads.specs.Telling.{piecesOf, Tellable}
 use Rattle.writes.specs.Walked as writes
 use Rattle.writes.specs.Walked.{writesOf, Writable, Keepable}

@@ -14,7 +14,7 @@ use Rattle.base.proofs.Below.{at-below, small, entry-small}
 use Rattle.base.proofs.Sums.{inside}
 use Rattle.base.proofs.Joined.{joined-at}
 use Rattle.points.specs.Row.{Row, noRow}
-use Rattle.points.specs.Types.{Point, points, noPoint, point, height, row, counts, logicals, gateway}
+use Rattle.points.specs.Types.{Point, points, noPoint, point, height, row, Build, counts, logicals}
 use Rattle.points.specs.Place.{lens, first, within, lenAt, rowLen}
 use Rattle.points.specs.Columns.{rowsOf, rowAt, starts, startsOf, beginnings, readsOf, writesOf, readLevels, writeLevels}
 
@@ -95,10 +95,10 @@ len-small i k = go (ltb i 6) refl
         rw z zero-le
 
 -- a type with a logical is one of the six
-pub six : (i l : ℕ) → l < logicals gateway i → i < 6
+pub six : (b : Build) (i l : ℕ) → l < logicals b i → i < 6
 unfolding logicals
-six i l h = go (ltb i 6) refl
+six b i l h = go (ltb i 6) refl
   where
-    go : (b : Bool) → ltb i 6 ≡ b → i < 6
+    go : (x : Bool) → ltb i 6 ≡ x → i < 6
     go true e = ltb-true i 6 e
-    go false e = absurd (not-suc-le-zero (rw (List·getD-eq-default (counts gateway) 0 (ltb-false i 6 e)) at h))
+    go false e = absurd (not-suc-le-zero (rw (List·getD-eq-default (counts b) 0 (ltb-false i 6 e)) at h))

@@ -91,7 +91,7 @@ module _ (s : List ℕ) (t l k : ℕ) (v : List ℕ) where
 
       module _ (long : length v ≡ n) (i : ℕ) (ei : i ≡ indexOf t) where
         stands : Here gateway i l k
-        stands = record { type = six i l (rw ei (facts .logical)); logical = rw ei (facts .logical); parameter = rw ei (facts .parameter) }
+        stands = record { type = six gateway i l (rw ei (facts .logical)); logical = rw ei (facts .logical); parameter = rw ei (facts .parameter) }
 
         -- a block of one parameter is as long as the system writes at a time
         pub writable : Writable (callerOf itself) (Block i l k) 1 0 v v s
