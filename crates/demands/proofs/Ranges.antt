@@ -15,6 +15,7 @@ use Rattle.points.specs.Types.{points, Build, logicals, point, height, row, seg
 use Rattle.store.specs.Store.{value}
 use Rattle.store.specs.Fresh.{defaultOf, fresh}
 use Rattle.store.proofs.Fresh.{value-fresh}
+use Rattle.values.specs.Weighable.{passes}
 use Rattle.values.specs.Kinds.{printed, signedOf, finite32, finite64, validTlp, numberTlp, ofKind}
 use Rattle.values.specs.Judged.{statusOk, rateOk, sizeOk, inRange, judged}
 use Rattle.values.specs.Pairs.{pairOf, paired, together}
@@ -42,10 +43,6 @@ system-in-range b s t l k v good = go (written b s t l k v)
     go (set-to {ws} w e q) = stored-in-range b s w good ws (q .sound) (q .judged)
 
 -- ---- the fresh store, of a build with no more logicals of any type than document 01's
-
-passes : Check Unit → Bool
-passes (fault n p) = false
-passes (pass x) = true
 
 passed-is : (c : Check Unit) → passes c ≡ true → c ≡ pass tt
 unfolding passes

@@ -3,7 +3,7 @@
 use Prim.Native.Nat.{ℕ}
 use mathlib.Core.Path.{_≡_, refl, sym, _∙_}
 use mathlib.Core.List.{List}
-use Rattle.base.specs.Check.{Check, fault, pass, _>>=_}
+use Rattle.base.specs.Check.{Check, pass, _>>=_}
 use Rattle.base.specs.Bytes.{le}
 use Rattle.base.proofs.Checks.{Holds, faulty, passing, step, step-same, then-then}
 use Rattle.points.specs.Row.{Kind, text, unsigned, signed, single, double, tlp}

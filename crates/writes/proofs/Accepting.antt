@@ -17,7 +17,7 @@ use Rattle.points.specs.Row.{Row, Kind, text, unsigned, signed, single, double,
 use Rattle.points.specs.Types.{row, gateway, segments}
 use Rattle.points.specs.Place.{first, lenAt, storeSize}
 use Rattle.points.specs.Columns.{rowAt, rowKind, kindCode}
-use Rattle.points.proofs.Rows.{row-at, row-length, row-below, six}
+use Rattle.points.proofs.Rows.{row-at, row-length, row-below, six, first-segment}
 use Rattle.store.specs.Store.{value, Write, stored}
 use Rattle.store.proofs.Laws.{Sound}
 use Rattle.values.specs.Kinds.{printed, ofKind}
@@ -118,10 +118,6 @@ plain-text r = only (eqb (rowKind (rowAt r)) 0) (both (isAny (rowAt r .range)) (
 texts-plain : (r : ℕ) → r < 175 → plain-text r ≡ true
 unfolding plain-text rowAt pairOf
 texts-plain r h = at-below 175 plain-text refl r h
-
-first-segment : first segments ≡ 161
-unfolding first
-first-segment = refl
 
 is-none : (p : Pair) → pairCode p ≡ 0 → p ≡ none
 is-none none e = refl
