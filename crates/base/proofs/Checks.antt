@@ -35,6 +35,12 @@ unfolding _>>=_
 step-with faulty h = faulty
 step-with (passing q) h = h _ q
 
+-- three checks, one behind the other
+pub then-then : {A B C : Type 0} (c : Check A) (f : A → Check B) (g : B → Check C) → (c >>= f >>= g) ≡ (c >>= λ a. f a >>= g)
+unfolding _>>=_
+then-then (fault n p) f g = refl
+then-then (pass a) f g = refl
+
 -- what is known anyway holds of what passes
 pub anyway : {A P : Type 0} → P → (c : Check A) → Holds (λ _. P) c
 anyway q (fault n p) = faulty

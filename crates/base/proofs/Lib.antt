@@ -1,5 +1,4 @@
 pub mod Below
-pub mod Conds
 pub mod Tests
 pub mod Checks
 pub mod Sums

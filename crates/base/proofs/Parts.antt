@@ -1,13 +1,13 @@
 -- A part of a list, and a list with a part replaced: what is read back, there and elsewhere.
 -- Assumes nothing.
 use mathlib.Core.Path.{_≡_, refl, sym, ap, _∙_}
-use mathlib.Core.List.{List, [], _∷_, _++_, append-assoc}
+use mathlib.Core.List.{List, [], _∷_, _++_, append-assoc, append-nil}
 use mathlib.Core.Logic.{_⊎_, inl, inr}
 use Prim.Native.Nat.{ℕ, zero, suc, _+_, _-_, _≤_, _<_}
-use native.Mathlib.Nat.{suc-add, zero-add, add-assoc}
+use native.Mathlib.Nat.{suc-add, zero-add, add-zero, add-assoc}
 use native.Mathlib.Numerals.{add-one}
 use native.Mathlib.Omega.{arith}
-use lib.ListN.{length, getD, take, drop, length-append, length-take, length-drop}
+use lib.ListN.{length, getD, take, drop, length-append, length-take, length-drop, take-append-drop}
 use lib.Seq.{length-take-le, take-at, drop-at, take-append-le, take-take, take-add, drop-cons, drop-drop, take-nil}
 use Rattle.base.specs.Lists.{part, put}
 
@@ -72,6 +72,11 @@ module _ (s v : List ℕ) (a : ℕ) (fits : a + length v ≤ length s) where
   part-apart b n (inl h) = part-behind b n h
   part-apart b n (inr h) = part-before b n h
 
+-- nothing put
+pub put-none : (s : List ℕ) (a : ℕ) → put s a [] ≡ s
+unfolding put
+put-none s a = rw (append-nil, add-zero) (take-append-drop a s)
+
 -- two pieces put one behind the other are one piece: how a reply is built
 pub put-join : (s v w : List ℕ) (a : ℕ) → a + length v + length w ≤ length s → put (put s a v) (a + length v) w ≡ put s a (v ++ w)
 unfolding put
@@ -85,19 +90,3 @@ put-join s v w a h =
     ∙ drop-drop (length w) m s
     ∙ ap (λ (j : ℕ). drop j s) (add-assoc a (length v) (length w) ∙ ap (λ (j : ℕ). a + j) (sym (length-append v w))) in
     rw (front, back) (ap (λ (l : List ℕ). l ++ drop (a + length (v ++ w)) s) (append-assoc (take a s) v w))
-
--- what is filled so far: the first a elements of f, then those of s. The next part of f put behind them is one more step of a fill
-pub put-next : (f s : List ℕ) (a n : ℕ) → a + n ≤ length f → length s ≡ length f
-    → put (take a f ++ drop a s) a (part f a n) ≡ take (a + n) f ++ drop (a + n) s
-unfolding put part
-put-next f s a n hf hs =
-    let v : List ℕ = take n (drop a f) in
-    let e : length (take a f) ≡ a = length-take-le a f (omega arith) in
-    let len : length v ≡ n = length-part f a n hf in
-    let front : take a (take a f ++ drop a s) ≡ take a f = take-at (take a f) (drop a s) a e in
-    let back : drop (a + length v) (take a f ++ drop a s) ≡ drop (a + n) s =
-    ap (λ (j : ℕ). drop (a + j) (take a f ++ drop a s)) len
-    ∙ sym (drop-drop n a (take a f ++ drop a s))
-    ∙ ap (drop n) (drop-at (take a f) (drop a s) a e)
-    ∙ drop-drop n a s in
-    rw (front, back, take-add)

@@ -1,20 +1,19 @@
 -- The cases of the definitions, each under the plain facts that the code's tests leave. A proof of a function cites them by name.
 -- Assumes nothing.
-use mathlib.Core.Path.{_≡_, refl, sym, ap, _∙_}
+use mathlib.Core.Path.{_≡_, refl, sym, _∙_}
 use mathlib.Core.Bool.{Bool, true, false, _&&_, cond, false≢true}
 use mathlib.Core.List.{List}
 use Prim.Native.Nat.{ℕ, _+_, _-_, _*_, _/_, _%_, _≤_, _<_}
 use native.Mathlib.Numerals.{add-one}
 use native.Mathlib.Omega.{arith}
 use lib.Dec.{eqb, leb, ltb}
-use lib.ListN.{getD, length, set, length-set, List·getD-eq-default}
+use lib.ListN.{getD, set, List·getD-eq-default}
 use lib.Seq.{getD-set-other}
 use borrow.Author.Tests.{lt-ltb, le-ltb, le-leb, lt-leb, eq-eqb, ne-eqb, leb-true, eqb-true}
 use Rattle.clock.specs.Calendar.{leap, lengths, monthDays, validDate, yearsDays, monthsDays, weekdayOf}
 use Rattle.clock.specs.Moments.{validClock, midnight, dayLater, later, tick, weekdayAt, clockOf}
 use Rattle.base.proofs.Below.{at-below, entry-small}
 use Rattle.clock.specs.declared.Clock.{Clock}
-use Rattle.clock.specs.declared.Ticked.{Ticked}
 
 pub leap-400 : (y : ℕ) → y % 400 ≡ 0 → true ≡ leap y
 unfolding leap

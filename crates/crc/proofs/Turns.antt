@@ -1,7 +1,7 @@
 -- Four turns of the CRC's register at once: the turn is linear, and a register whose low four bits are 0 moves by four places.
 -- Assumes nothing.
 use mathlib.Core.Path.{_≡_, refl, sym, ap, ap₂, _∙_}
-use Prim.Native.Nat.{ℕ, suc, _+_, _*_, _/_, _%_, _^_, _<_}
+use Prim.Native.Nat.{ℕ, suc, _*_, _/_, _%_, _^_, _<_}
 use native.Mathlib.Nat.{mul-one, mod-lt, zero-lt-suc, div-add-mod'}
 use lib.Bits.{bitXor, xor-shr, xor-mod, xor-zero-r, xor-shifted, shifted-half, shifted-even}
 use Rattle.crc.specs.Crc.{turn, turns4}

@@ -1,8 +1,8 @@
 -- Published values, computed.
 -- Assumes nothing.
 use mathlib.Core.Path.{_≡_, refl}
-use mathlib.Core.List.{List, [], _∷_, _++_}
-use Prim.Native.Nat.{ℕ, _+_, _*_}
+use mathlib.Core.List.{[], _∷_}
+use Prim.Native.Nat.{_+_, _*_}
 use Rattle.base.specs.Bytes.{ascii}
 use Rattle.crc.specs.Crc.{turn, turns4, crcByte, crcFrom, crcOf}
 

@@ -8,7 +8,8 @@ use lib.ListN.{length, getD, drop}
 use Rattle.base.specs.Check.{pass}
 use Rattle.base.proofs.Checks.{Holds, faulty, passing, step, step-with, holds-map}
 use Rattle.points.specs.Types.{Build}
-use Rattle.store.specs.Store.{Write, value, values, stored}
+use Rattle.store.specs.Store.{Write, stored}
+use Rattle.store.proofs.Laws.{values-one}
 use Rattle.frame.specs.Frame.{dataOf}
 use Rattle.rules.specs.Asked.{Asked, Held}
 use Rattle.rules.specs.Deeds.{Piece, Deeds, shown, told}
@@ -31,10 +32,6 @@ writing-brings b who s src zero d at ws = step _ λ _. passing refl
 writing-brings b who s src (suc n) d at ws =
     step-with (next-names b writeLevel who src d at) λ p e. step _ λ _.
     rw e (writing-brings b who s (after src) n _ _ _)
-
-values-one : (b : Build) (s : List ℕ) (i l k : ℕ) → values b s i l k 1 ≡ value b s i l k
-unfolding values
-values-one b s i l k = append-nil (value b s i l k)
 
 reading-tells-all : (b : Build) (who : Caller) (s : List ℕ) (src : Source) (n : ℕ) (d : List ℕ) (at : ℕ) (ps : List Piece)
     → Holds (λ qs. told b s qs ≡ told b s ps ++ valuesOf b s src n d) (reading b who src n d at ps)

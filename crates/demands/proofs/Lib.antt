@@ -16,3 +16,4 @@ pub mod Clocks
 pub mod Unique
 pub mod Numbered
 pub mod Runs
+pub mod Readings

@@ -16,7 +16,7 @@ use Rattle.points.specs.Place.{rowLen, lens, lenAt, first, offset, placeOf}
 use Rattle.points.specs.There.{There}
 use Rattle.store.specs.Store.{value}
 use Rattle.rules.proofs.Agree.{Agree}
-use Rattle.demands.proofs.Planned.{six}
+use Rattle.points.proofs.Rows.{six}
 
 -- each of the six is found by its own number
 same-index : (i : ℕ) → i < 6 → indexOf (point i .id) ≡ i

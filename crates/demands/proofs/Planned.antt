@@ -1,16 +1,17 @@
 -- Each opcode's checks are its table, and so are those of the system write and of the number read.
 -- Assumes nothing.
-use Prim.Native.Nat.{ℕ, _<_}
+use Prim.Native.Nat.{ℕ}
 use native.Mathlib.Omega.{arith}
 use mathlib.Core.Path.{_≡_, refl}
 use mathlib.Core.Bool.{Bool, true, false}
 use mathlib.Core.List.{List, [], _∷_}
-use borrow.Author.Tests.{ltb-true, ltb-false}
-use lib.ListN.{getD, drop, List·getD-eq-default}
+use borrow.Author.Tests.{ltb-true}
+use lib.ListN.{getD, drop}
 use lib.Dec.{ltb}
 use Rattle.base.specs.Check.{Check}
 use Rattle.base.proofs.Below.{at-below}
-use Rattle.points.specs.Types.{points, Build, counts, logicals, point, height, indexOf}
+use Rattle.points.specs.Types.{points, Build, logicals, point, height, indexOf}
+use Rattle.points.proofs.Rows.{six}
 use Rattle.rules.specs.Asked.{Held}
 use Rattle.rules.specs.Entries.{request, named}
 use Rattle.rules.specs.Lists.{ends, fitting}
@@ -23,16 +24,7 @@ use Rattle.demands.proofs.Tabled.{there-says, reading-says, writing-say
 
 -- ---- 167 and 166: a type with a logical has a parameter 0, and what the first check found is there
 
--- a type with a logical is one of the six
-pub six : (b : Build) (i l : ℕ) → l < logicals b i → i < 6
-unfolding logicals
-six b i l h = go (ltb i 6) refl
-  where
-    go : (x : Bool) → ltb i 6 ≡ x → i < 6
-    go true e = ltb-true i 6 e
-    go false e = absurd (omega (arith, List·getD-eq-default (counts b) 0 (ltb-false i 6 e)))
-
--- and each of those has a parameter 0
+-- each of the six types has a parameter 0
 has-first : (b : Build) (i : ℕ) → ltb 0 (logicals b i) ≡ true → ltb 0 (height (point i)) ≡ true
 unfolding point points
 has-first b i e = at-below 6 (λ j. ltb 0 (height (point j))) refl i (six b i 0 (ltb-true _ _ e))

@@ -15,6 +15,7 @@ use Rattle.points.specs.Types.{points, Build, logicals, point, height, row, seg
 use Rattle.store.specs.Store.{value}
 use Rattle.store.specs.Fresh.{defaultOf, fresh}
 use Rattle.store.proofs.Fresh.{value-fresh}
+use Rattle.values.specs.Weighable.{passes}
 use Rattle.values.specs.Kinds.{printed, signedOf, finite32, finite64, validTlp, numberTlp, ofKind}
 use Rattle.values.specs.Judged.{statusOk, rateOk, sizeOk, inRange, judged}
 use Rattle.values.specs.Pairs.{pairOf, paired, together}
@@ -24,7 +25,7 @@ use Rattle.rules.specs.System.{Left, systemWrite, fill}
 use Rattle.rules.proofs.InRange.{InRange, stored-in-range}
 use Rattle.rules.proofs.Answered.{Answered, unheard, refused, acted, answered, Written, unset, set-to, written, Filled, filled-up, unfilled, filled}
 use Rattle.demands.specs.Good.{NoLarger}
-use Rattle.demands.proofs.Planned.{six}
+use Rattle.points.proofs.Rows.{six}
 
 pub stays-in-range : (b : Build) (a : Asked) (h : Held) (r : List ℕ) → InRange b (h .store) → InRange b (answer b a h r .store)
 stays-in-range b a h r good = go (answered b a h r)
@@ -42,10 +43,6 @@ system-in-range b s t l k v good = go (written b s t l k v)
     go (set-to {ws} w e q) = stored-in-range b s w good ws (q .sound) (q .judged)
 
 -- ---- the fresh store, of a build with no more logicals of any type than document 01's
-
-passes : Check Unit → Bool
-passes (fault n p) = false
-passes (pass x) = true
 
 passed-is : (c : Check Unit) → passes c ≡ true → c ≡ pass tt
 unfolding passes

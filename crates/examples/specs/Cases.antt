@@ -3,7 +3,7 @@
 use Prim.Native.Nat.{ℕ, _-_}
 use mathlib.Core.Bool.{Bool, true, false}
 use mathlib.Core.List.{List, [], _∷_, _++_}
-use lib.ListN.{length, replicate}
+use lib.ListN.{replicate}
 use lib.Dec.{eqb}
 use Rattle.base.specs.Check.{_>>=_, test, from}
 use Rattle.base.specs.Lists.{part, put, over, both}

@@ -11,8 +11,8 @@ use lib.ListN.{length, take, drop, drop-of-length-le}
 use lib.Seq.{take-all}
 use Rattle.base.specs.Lists.{part, put}
 use Rattle.base.proofs.Below.{entry-small}
-use Rattle.base.proofs.Parts.{length-part, length-put, put-join}
-use Rattle.base.proofs.Parts.{part-add}
+use Rattle.base.proofs.Parts.{put-none, length-part, length-put, put-join}
+use Rattle.base.proofs.Parts.{put-none, part-add}
 use Rattle.points.specs.Types.{point, height, row, logicals, counts, gateway}
 use Rattle.points.specs.Place.{first, base, areas, within, lenAt, offset, storeSize}
 use Rattle.points.specs.Columns.{rowAt}
@@ -24,7 +24,6 @@ use Rattle.store.specs.Fresh.{rowStart, defaultOf, fresh}
 use Rattle.store.proofs.Fresh.{value-fresh, length-fresh, next-logical, next-type}
 use Rattle.rules.specs.System.{fill}
 use Rattle.fill.specs.Steps.{Room, renewed, Begins, Filled}
-use Rattle.fill.proofs.Writing.{put-none}
 
 -- ---- one stretch of the fresh store behind another
 

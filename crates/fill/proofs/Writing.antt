@@ -1,19 +1,16 @@
 -- A text and a number written byte by byte: what is left to write, put behind what is written, is the whole.
 -- Assumes nothing.
 use mathlib.Core.Path.{_≡_, refl, sym, ap}
-use mathlib.Core.List.{List, [], _∷_, _++_, append-nil}
+use mathlib.Core.List.{List, [], _∷_, _++_}
 use Prim.Native.Nat.{ℕ, zero, suc, _+_, _-_, _/_, _%_, _≤_, _<_}
 use native.Mathlib.Nat.{add-zero, not-suc-le-zero, le-of-suc-le-suc}
 use native.Mathlib.Numerals.{add-one}
 use native.Mathlib.Omega.{arith}
-use lib.ListN.{length, getD, take, drop, set, take-append-drop, List·getD-eq-default}
+use lib.ListN.{length, getD, take, drop, set, List·getD-eq-default}
 use lib.Seq.{take-suc-set, drop-set-lt, append-snoc}
 use Rattle.base.specs.Lists.{put}
 use Rattle.base.specs.Bytes.{bytes, padded}
-
-pub put-none : (s : List ℕ) (a : ℕ) → put s a [] ≡ s
-unfolding put
-put-none s a = rw (append-nil, add-zero) (take-append-drop a s)
+use Rattle.base.proofs.Parts.{put-none}
 
 -- one byte stored behind i others, and the rest put behind it
 put-step : (s u v : List ℕ) (at i x : ℕ) → at + i < length s → u ≡ x ∷ v → put (set s (at + i) x) (at + (i + 1)) v ≡ put s (at + i) u

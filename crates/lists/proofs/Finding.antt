@@ -1,6 +1,6 @@
 -- The cases of finding the next entry, under the plain facts that the code's tests leave.
 -- Assumes nothing.
-use Prim.Native.Nat.{ℕ, suc, _+_, _-_, _*_, _≤_, _<_}
+use Prim.Native.Nat.{ℕ, _+_, _-_, _*_, _≤_, _<_}
 use native.Mathlib.Nat.{add-zero}
 use native.Mathlib.Omega.{arith}
 use mir.Syntax.{w64}
@@ -8,16 +8,16 @@ use mir.Val.{Fits}
 use mathlib.Core.Path.{_≡_, refl, sym, ap, _∙_}
 use mathlib.Core.Bool.{Bool, true, false, not}
 use mathlib.Core.List.{List}
-use borrow.Author.Tests.{le-leb, lt-leb, eq-eqb, ne-eqb}
+use borrow.Author.Tests.{le-leb, lt-leb}
 use lib.Dec.{leb, eqb}
 use lib.ListN.{length, getD, drop, length-drop}
 use lib.Seq.{getD-drop}
-use Rattle.base.specs.Check.{Check, fault, pass, _>>=_, test}
+use Rattle.base.specs.Check.{fault, _>>=_, test}
 use Rattle.base.proofs.Checks.{passed, failed}
 use Rattle.points.specs.Row.{Access, readWrite, readOnly, readOnlyFirst}
-use Rattle.points.specs.Types.{Point, point, indexOf, height, gateway}
-use Rattle.points.specs.Place.{first, offset, lenAt, placeOf, Here, spotOf}
-use Rattle.points.specs.Columns.{rowAt, rowAccess, accessCode, readLevels, writeLevels}
+use Rattle.points.specs.Types.{point, indexOf, height, gateway}
+use Rattle.points.specs.Place.{first, placeOf, Here, spotOf}
+use Rattle.points.specs.Columns.{accessCode, readLevels, writeLevels}
 use Rattle.points.specs.There.{there}
 use Rattle.points.specs.declared.Spot.{Spot}
 use Rattle.points.specs.declared.Place.{Place}
@@ -25,8 +25,8 @@ use Rattle.points.specs.declared.Place.the-variants.{At, NoType, NoLogical, NoP
 use Rattle.points.proofs.Rows.{row-below, row-reads, row-writes}
 use Rattle.points.proofs.Placed.{Placed, placed}
 use Rattle.rules.specs.Entries as rules
-use Rattle.rules.specs.Entries.{Named, request, system, reaches, mayWrite, found, next, block, named, located}
-use Rattle.lists.specs.Walks.{callerOf, levelBy, levelAt, sourceAt, entryOf, nextOf, Findable}
+use Rattle.rules.specs.Entries.{request, system, reaches, mayWrite, found, next}
+use Rattle.lists.specs.Walks.{callerOf, levelBy, levelAt, sourceAt, entryOf, nextOf}
 use Rattle.lists.specs.declared.Caller.{Caller}
 use Rattle.lists.specs.declared.Source.{Source}
 use Rattle.lists.specs.declared.Source.the-variants.{Block, Named as NamedS, Located}

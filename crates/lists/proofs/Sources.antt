@@ -1,22 +1,20 @@
 -- A list as the code has it, one entry after the other, and what an entry that was found says of it.
 -- Assumes nothing.
-use Prim.Native.Nat.{ℕ, suc, _+_, _-_, _*_, _≤_, _<_}
-use native.Mathlib.Nat.{add-suc, add-zero}
-use native.Mathlib.Numerals.{add-one}
+use Prim.Native.Nat.{ℕ, _+_, _-_, _*_, _≤_}
 use native.Mathlib.Omega.{arith}
-use mathlib.Core.Path.{_≡_, refl, sym, ap, _∙_, fun-ext}
-use mathlib.Core.Bool.{Bool, true, false}
+use mathlib.Core.Path.{_≡_, refl, ap, _∙_, fun-ext}
+use mathlib.Core.Bool.{true, false}
 use mathlib.Core.List.{List}
 use borrow.Author.Tests.{leb-true}
 use lib.ListN.{length, drop, length-drop}
 use lib.Seq.{drop-drop}
 use Rattle.base.specs.Check.{Check, fault, pass, _>>=_}
-use Rattle.base.proofs.Checks.{first-passes}
-use Rattle.points.specs.Types.{Point, gateway, indexOf, point, height, logicals}
-use Rattle.points.proofs.Placed.{placed}
+use Rattle.base.proofs.Checks.{passing, first-passes}
+use Rattle.points.specs.Types.{Point, gateway}
 use Rattle.rules.specs.Entries as rules
-use Rattle.rules.specs.Entries.{Named, block, named, located, spoken, after, found, next}
+use Rattle.rules.specs.Entries.{Named, block, located, spoken, after, found, next}
 use Rattle.rules.specs.Lists.{readLevel, writeLevel}
+use Rattle.rules.proofs.Found.{Stands, found-holds}
 use Rattle.lists.specs.Walks.{levelBy, spokenOf, sourceAt, entryOf, nextOf, Findable}
 use Rattle.lists.specs.declared.Entry.{Entry}
 use Rattle.lists.specs.declared.Source.{Source}
@@ -70,25 +68,11 @@ spoken-there level who NamedS e d at bs h = let y : 3 ≤ length (drop at d) = l
 spoken-there level who Located e d at bs h = omega arith
 
 -- an entry that was found is a parameter of the build
-pub record Stands (q : Named) : Type 0 where
-  pub logical : q .logical < logicals gateway (q .type)
-  pub parameter : q .parameter < height (point (q .type))
-
-found-stands : (level : Point → ℕ) (who : rules.Caller) (t l k pt pl pk : ℕ) {q : Named} → found gateway level who t l k pt pl pk ≡ pass q → Stands q
-unfolding found
-found-stands level who t l k pt pl pk {q} h =
-    let x = first-passes _ h in
-    let y = first-passes _ (x .1 .1) in
-    let w = placed gateway t l k _ _ _ (x .0 .found) in
-    go (y .1 .1) (w .logical) (w .parameter)
-  where
-    go : {q : Named} → pass (record { type = indexOf t; logical = l; parameter = k }) ≡ pass q → l < logicals gateway (indexOf t) → k < height (point (indexOf t)) → Stands q
-    go {q} e hl hk =
-        let z : record { type = indexOf t; logical = l; parameter = k } ≡ q = cc in
-        rw (← z) (record { logical = hl; parameter = hk })
+found-stands : (level : Point → ℕ) (who : rules.Caller) (t l k pt pl pk : ℕ) {q : Named} → found gateway level who t l k pt pl pk ≡ pass q → Stands gateway q
+found-stands level who t l k pt pl pk h = elim (rw h at (found-holds gateway level who t l k pt pl pk)) [ passing w ↦ w .stands ]
 
 pub stands : (level : Point → ℕ) (who : rules.Caller) (src : Source) (e : ℕ) (d : List ℕ) (at : ℕ) (bs : List ℕ) {q : Named}
-    → Findable src e d at bs → next gateway level who (sourceAt src e bs) (drop at d) at ≡ pass q → Stands q
+    → Findable src e d at bs → next gateway level who (sourceAt src e bs) (drop at d) at ≡ pass q → Stands gateway q
 unfolding sourceAt next
 stands level who (Block i l k) e d at bs {q} f h =
     let z : record { type = i; logical = l; parameter = k + e } ≡ q = cc in

@@ -1,29 +1,28 @@
 -- The cases of a list read or written, under the facts that its check leaves.
 -- Assumes nothing.
-use Prim.Native.Nat.{ℕ, _≤_}
+use Prim.Native.Nat.{ℕ}
 use native.Mathlib.Omega.{arith}
 use mathlib.Core.Path.{_≡_, refl, sym, ap, _∙_}
 use mathlib.Core.Bool.{Bool, true, false, cond}
 use mathlib.Core.List.{List, []}
-use lib.ListN.{length, drop}
+use lib.ListN.{drop}
 use Rattle.base.specs.Check.{Check, fault, pass}
 use Rattle.base.specs.Lists.{put}
 use Rattle.points.specs.Types.{gateway}
-use Rattle.store.specs.Store.{Write, stored}
-use Rattle.rules.specs.Entries as rules
+use Rattle.store.specs.Store.{stored}
 use Rattle.rules.specs.Entries.{request, system}
 use Rattle.rules.specs.Deeds.{Piece, told, sizes}
 use Rattle.rules.specs.Lists.{writing}
 use Rattle.lists.specs.Walks.{callerOf, sourceAt}
-use Rattle.lists.specs.declared.Caller.{Caller}
 use Rattle.lists.specs.declared.Source.{Source}
 use Rattle.lists.specs.declared.Checked.{Checked}
 use Rattle.lists.specs.declared.Checked.the-variants as checked
 use Rattle.reads.specs.Listed as reads
-use Rattle.reads.specs.Listed.{listed, Readable}
+use Rattle.reads.specs.Listed.{listed}
 use Rattle.reads.specs.Telling.{piecesOf, Tellable}
 use Rattle.writes.specs.Walked as writes
 use Rattle.writes.specs.Walked.{writesOf, Writable, Keepable}
+use Rattle.writes.proofs.Answers.{is-fault, is-pass}
 use Rattle.opcodes.specs.Walks.{readDone, readSpace, Listable, whole, writeDone, writeStore, Storable}
 use Rattle.opcodes.specs.declared.Done.the-variants.{Said, Fault}
 
@@ -80,16 +79,6 @@ module _ (L : ℕ) (src : Source) (d bs s r : List ℕ) (z : Checked)
 
 -- ---- writing
 
-write-faulty : (c : Check (List Write)) {n p : ℕ} → writes.checkedOf c ≡ checked.Fault n p → c ≡ fault n p
-unfolding writes.checkedOf
-write-faulty (fault m q) e = cc
-write-faulty (pass ws) e = let z : _≡_ {A = ℕ} 0 1 = cc in absurd (omega arith)
-
-write-passes : (c : Check (List Write)) {n : ℕ} → writes.checkedOf c ≡ checked.Pass n → c ≡ pass (writesOf c)
-unfolding writes.checkedOf
-write-passes (fault m q) e = let z : _≡_ {A = ℕ} 0 1 = cc in absurd (omega arith)
-write-passes (pass ws) e = refl
-
 not-system : (L : ℕ) → request L ≡ system → ⊥
 not-system L e = let z : _≡_ {A = ℕ} 0 1 = cc in omega arith
 
@@ -114,18 +103,18 @@ module _ (L : ℕ) (src : Source) (count from : ℕ) (d bs s : List ℕ) where
     pub write-fault : (n p : ℕ) → z ≡ checked.Fault n p
         → (Fault n p ≡ writeDone (whole L src count from d bs s)) × (s ≡ writeStore s (whole L src count from d bs s))
     unfolding writeDone writeStore
-    write-fault n p h = let e = write-faulty (whole L src count from d bs s) (sym by-level ∙ h) in rw e (refl, refl)
+    write-fault n p h = let e = is-fault (whole L src count from d bs s) (sym by-level ∙ h) in rw e (refl, refl)
 
     module _ (n : ℕ) (h : z ≡ checked.Pass n) where
       pub keepable : Storable src count from d bs s → Keepable (callerOf (record { level = L; system = false })) src count from d bs s
       unfolding whole
-      keepable a = record { writable = writable a; passes = rw (asking L) (write-passes (whole L src count from d bs s) (sym by-level ∙ h)) }
+      keepable a = record { writable = writable a; passes = rw (asking L) (is-pass (whole L src count from d bs s) (sym by-level ∙ h)) }
 
       pub write-kept : (s′ : List ℕ)
           → s′ ≡ stored gateway s (writesOf (writing gateway (callerOf (record { level = L; system = false })) s (sourceAt src 0 bs) count (drop from d) from []))
           → (Said 0 ≡ writeDone (whole L src count from d bs s)) × (s′ ≡ writeStore s (whole L src count from d bs s))
       unfolding writeDone writeStore whole
       write-kept s′ w =
-          let p = write-passes (whole L src count from d bs s) (sym by-level ∙ h) in
+          let p = is-pass (whole L src count from d bs s) (sym by-level ∙ h) in
           let w′ : s′ ≡ stored gateway s (writesOf (whole L src count from d bs s)) = rw (asking L) at w in
           (sym (ap writeDone p), w′ ∙ sym (ap (writeStore s) p))

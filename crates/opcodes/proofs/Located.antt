@@ -1,17 +1,17 @@
 -- The locations of a table: the cases of their check, what is known where it passes, and the plans of 10 and 11.
 -- Assumes nothing.
-use Prim.Native.Nat.{ℕ, zero, suc, _+_, _-_, _*_, _≤_, _<_}
+use Prim.Native.Nat.{ℕ, zero, suc, _+_, _*_, _≤_, _<_}
 use native.Mathlib.Omega.{arith}
 use mathlib.Core.Path.{_≡_, refl, sym, ap, _∙_}
 use mathlib.Core.Bool.{Bool, true, false, not}
 use mathlib.Core.List.{List}
 use borrow.Author.Tests.{le-leb, lt-leb, eq-eqb, ne-eqb, lt-ltb, le-ltb, leb-true, ltb-true, eqb-true, eqb-false, not-true}
 use lib.Dec.{leb, ltb, eqb}
-use lib.ListN.{length, getD, take, drop}
+use lib.ListN.{length, getD, take}
 use lib.Seq.{length-take-le}
 use Rattle.base.specs.Check.{Check, fault, pass, _>>=_, test}
 use Rattle.base.specs.Lists.{part, put, both}
-use Rattle.base.proofs.Below.{at-below, both-left, both-right}
+use Rattle.base.proofs.Below.{at-below, both-left}
 use Rattle.base.proofs.Checks.{passed, failed, on-pass, on-fault, first-passes}
 use Rattle.base.proofs.Parts.{length-part, length-put, part-put}
 use Rattle.points.specs.Types.{gateway, tables, point, points, height, logicals}
@@ -19,7 +19,7 @@ use Rattle.points.specs.Place.{Here, storeSize, offset, lenAt, spotOf}
 use Rattle.points.specs.declared.Spot.{Spot}
 use Rattle.points.proofs.Laws.{fits}
 use Rattle.store.specs.Store.{values, spanOf}
-use Rattle.store.proofs.Laws.{values-part, values-length, span-more, span-reach}
+use Rattle.store.proofs.Laws.{values-part, span-more, span-reach}
 use Rattle.rules.specs.Entries.{request}
 use Rattle.rules.specs.Opcodes.{lastLocation, locates, plan10, plan11}
 use Rattle.lists.specs.Walks.{sourceAt}

@@ -5,26 +5,22 @@ use mathlib.Core.Bool.{Bool, true, false, cond}
 use mathlib.Core.List.{List, [], _∷_, _++_, append-nil}
 use Prim.Native.Nat.{ℕ, _+_, _-_, _≤_, _<_}
 use native.Mathlib.Omega.{arith}
-use lib.Dec.{eqb, leb, ltb}
 use lib.ListN.{length, take, drop, set, length-append, length-drop}
 use lib.Seq.{take-length, drop-length, length-take-le}
 use borrow.Author.Tests.{lt-ltb, le-ltb, le-leb, lt-leb, eq-eqb, ne-eqb}
 use Rattle.base.specs.Check.{Check, fault, pass, _>>=_, test}
-use Rattle.base.specs.Lists.{part, put, over, both}
+use Rattle.base.specs.Lists.{part, put, over}
 use Rattle.base.proofs.Checks.{passed, failed}
 use Rattle.base.proofs.Parts.{length-put, put-join}
 use Rattle.base.proofs.Written.{stored, put-first}
 use Rattle.clock.specs.Calendar.{monthDays}
 use Rattle.clock.specs.Moments.{clockOf, weekdayAt}
 use Rattle.clock.specs.declared.Clock.{Clock}
-use Rattle.points.specs.Types.{gateway}
-use Rattle.rules.specs.Asked.{Held}
-use Rattle.rules.specs.Deeds.{Deeds, plain, told, shown, sizes}
+use Rattle.rules.specs.Deeds.{Deeds, plain, told, shown}
 use Rattle.rules.specs.Lists.{ends}
 use Rattle.rules.specs.Opcodes.{telling, plan7, plan8}
 use Rattle.opcodes.specs.Done.{doneOf, spaceBy, clockBy}
 use Rattle.opcodes.specs.Clocks.{strayAt, Tellable, Told}
-use Rattle.opcodes.specs.declared.Done.{Done}
 use Rattle.opcodes.specs.declared.Done.the-variants.{Said, Fault}
 
 -- ---- 7

@@ -1,22 +1,19 @@
 -- What each opcode's plan comes to, under the plain facts that the code's tests leave.
 -- Assumes nothing.
-use Prim.Native.Nat.{ℕ, suc, _+_, _-_, _*_, _≤_, _<_}
+use Prim.Native.Nat.{ℕ, _≤_, _<_}
 use native.Mathlib.Omega.{arith}
-use mathlib.Core.Path.{_≡_, refl, sym, ap, _∙_}
-use mathlib.Core.Bool.{Bool, true, false, cond, not}
-use mathlib.Core.List.{List, [], _∷_, _++_}
+use mathlib.Core.Path.{_≡_, refl}
+use mathlib.Core.Bool.{Bool}
+use mathlib.Core.List.{List}
 use borrow.Author.Tests.{le-leb, lt-leb, eq-eqb, ne-eqb}
-use lib.Dec.{leb, eqb}
-use lib.ListN.{length, getD, take, drop}
+use lib.ListN.{length, getD}
 use Rattle.base.specs.Check.{Check, fault, pass, _>>=_, test}
-use Rattle.base.specs.Lists.{put}
-use Rattle.base.proofs.Checks.{on-pass, on-fault, passed, failed}
+use Rattle.base.proofs.Checks.{on-fault, failed}
 use Rattle.points.specs.Types.{gateway}
-use Rattle.store.specs.Store.{Write, stored}
+use Rattle.store.specs.Store.{Write}
 use Rattle.rules.specs.Asked.{Held}
 use Rattle.rules.specs.Entries.{request}
-use Rattle.rules.specs.Deeds.{Piece, Deeds, told, sizes}
-use Rattle.rules.specs.Lists.{reading, writing}
+use Rattle.rules.specs.Deeds.{Piece, Deeds}
 use Rattle.rules.specs.Opcodes.{telling, keeping, counted, plan180, plan181}
 use Rattle.lists.specs.Walks.{sourceAt}
 use Rattle.lists.specs.declared.Source.the-variants.{Named}
@@ -24,7 +21,7 @@ use Rattle.reads.specs.Listed.{listed}
 use Rattle.opcodes.specs.Done.{doneOf, spaceBy, storeBy, Told, Kept}
 use Rattle.opcodes.specs.Walks.{readDone, readSpace, Listable, whole, writeDone, writeStore, Storable, Ready, Set, held}
 use Rattle.opcodes.specs.declared.Done.{Done}
-use Rattle.opcodes.specs.declared.Done.the-variants.{Said, Fault}
+use Rattle.opcodes.specs.declared.Done.the-variants.{Fault}
 
 -- ---- any plan
 

@@ -1,27 +1,24 @@
 -- A block of parameters: the cases of its check, and what is known where it passes.
 -- Assumes nothing.
-use Prim.Native.Nat.{ℕ, suc, _+_, _-_, _≤_, _<_}
+use Prim.Native.Nat.{ℕ, _+_, _≤_, _<_}
 use native.Mathlib.Omega.{arith}
 use mathlib.Core.Path.{_≡_, refl, sym, ap, _∙_}
-use mathlib.Core.Bool.{Bool, true, false, not}
+use mathlib.Core.Bool.{true, false, not}
 use mathlib.Core.List.{List}
-use borrow.Author.Tests.{le-leb, lt-leb, eq-eqb, ne-eqb, lt-ltb, leb-true, ltb-true, eqb-false, not-true}
-use lib.Dec.{leb, ltb, eqb}
+use borrow.Author.Tests.{le-leb, lt-leb, eq-eqb, ne-eqb, ltb-true}
+use lib.Dec.{ltb, eqb}
 use lib.ListN.{length, getD}
-use Rattle.base.specs.Check.{Check, fault, pass, _>>=_, test}
+use Rattle.base.specs.Check.{Check, fault, pass, _>>=_}
 use Rattle.base.proofs.Below.{at-below}
-use Rattle.base.proofs.Checks.{passed, failed, on-pass, on-fault, first-passes}
+use Rattle.base.proofs.Checks.{passed, failed}
 use Rattle.points.specs.Types.{gateway, indexOf, point, points, height, logicals}
-use Rattle.points.specs.Place.{placeOf, Here, spotOf}
+use Rattle.points.specs.Place.{placeOf, spotOf}
 use Rattle.points.specs.There.{There, there}
 use Rattle.points.specs.declared.Place.{Place}
 use Rattle.points.specs.declared.Place.the-variants.{At, NoType, NoLogical, NoParameter}
 use Rattle.points.proofs.Cases.{no-type, no-logical, no-parameter, is-there}
-use Rattle.points.proofs.Placed.{placed}
-use Rattle.points.proofs.Rows.{six}
 use Rattle.rules.specs.Opcodes.{lastOf, spans}
 use Rattle.opcodes.specs.Spans.{spannedOf}
-use Rattle.opcodes.specs.declared.blocks.Block.{Block}
 use Rattle.opcodes.specs.declared.blocks.Block.the-variants.{Of, Fault}
 
 -- ---- a place that is not there, or is

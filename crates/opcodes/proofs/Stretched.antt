@@ -1,19 +1,19 @@
 -- A block of parameters as one stretch of the store, and the plans of 167 and 166 under the facts that the code's tests leave.
 -- Assumes nothing.
-use Prim.Native.Nat.{ℕ, suc, _+_, _-_, _≤_, _<_}
+use Prim.Native.Nat.{ℕ, _+_, _-_, _≤_, _<_}
 use native.Mathlib.Omega.{arith}
 use mathlib.Core.Path.{_≡_, refl, sym, ap, ap₂, _∙_}
-use mathlib.Core.Bool.{Bool, true, false, cond, not}
+use mathlib.Core.Bool.{Bool, true, false}
 use mathlib.Core.List.{List, [], _∷_, _++_}
 use borrow.Author.Tests.{le-leb, lt-leb, eq-eqb, ne-eqb, leb-true, eqb-false, not-true}
-use lib.Dec.{leb, eqb}
+use lib.Dec.{leb}
 use lib.ListN.{length, getD, take, drop, length-drop}
 use lib.Seq.{length-take-le}
 use mir.Syntax.{w64}
 use mir.Val.{Fits}
 use Rattle.base.specs.Check.{Check, fault, pass, _>>=_}
 use Rattle.base.specs.Lists.{part, put}
-use Rattle.base.proofs.Checks.{passed, failed, on-pass, on-fault, first-passes}
+use Rattle.base.proofs.Checks.{passed, failed, on-pass, first-passes}
 use Rattle.base.proofs.Parts.{put-join, length-part}
 use Rattle.points.specs.Types.{gateway, indexOf, point, height, logicals}
 use Rattle.points.specs.Place.{first, offset, lenAt, storeSize, placeOf, Here, spotOf}
@@ -37,14 +37,14 @@ use Rattle.lists.specs.Walks.{sourceAt}
 use Rattle.lists.specs.declared.Source.the-variants as source
 use Rattle.opcodes.specs.Done.{doneOf, spaceBy, Told, Kept}
 use Rattle.opcodes.specs.Walks as walks
-use Rattle.opcodes.specs.Walks.{whole, writeDone, writeStore, Storable, Ready, Set}
+use Rattle.opcodes.specs.Walks.{whole, writeDone, writeStore, Storable, Set}
 use Rattle.opcodes.specs.Spans.{spannedOf, Run, stretched}
 use Rattle.opcodes.specs.declared.Done.{Done}
 use Rattle.opcodes.specs.declared.Done.the-variants as done
 use Rattle.opcodes.specs.declared.blocks.Stretch.{Stretch}
 use Rattle.opcodes.specs.declared.blocks.Block.{Block}
 use Rattle.opcodes.specs.declared.blocks.Block.the-variants.{Of, Fault}
-use Rattle.opcodes.proofs.Plans.{told-fault, kept-fault, kept-list}
+use Rattle.opcodes.proofs.Plans.{kept-list}
 
 -- ---- the stretch
 
@@ -163,7 +163,7 @@ module _ (d : List ℕ) (z : Block) (ez : z ≡ spannedOf d (spans gateway d)) w
         let s = spanning d (f .passes) in
         let lo : l .0 < logicals gateway i = rw (f .logical, f .index) (s .logical) in
         let he : height (point i) ≡ height (point (indexOf (getD d 0 0))) = ap (λ (j : ℕ). height (point j)) (f .index) in
-        record { type = six i (l .0) lo; logical = lo; some = omega (arith, f .count, s .some); last = omega (arith, f .start, f .count, s .last) }
+        record { type = six gateway i (l .0) lo; logical = lo; some = omega (arith, f .count, s .some); last = omega (arith, f .start, f .count, s .last) }
 
     -- st is where the code found the block to lie
     module _ (st : Stretch) (est : st ≡ stretched i (l .0) (k .0) (n .0)) where

@@ -9,7 +9,6 @@ use lib.Dec.{leb, ltb}
 use Rattle.base.specs.Lists.{both}
 use Rattle.clock.specs.Calendar.{firstYear, lastYear, monthDays}
 use Rattle.clock.specs.declared.Clock.{Clock}
-use Rattle.rules.specs.Asked.{Held}
 use Rattle.rules.specs.Opcodes.{plan7}
 use Rattle.opcodes.specs.Done.{doneOf, spaceBy}
 use Rattle.opcodes.specs.declared.Done.{Done}

@@ -2,7 +2,7 @@
 -- Assumes nothing.
 use Prim.Native.Nat.{ℕ, _+_, _≤_, _<_}
 use mathlib.Core.List.{List}
-use lib.ListN.{length, getD}
+use lib.ListN.{getD}
 use Rattle.base.specs.Check.{Check, fault, pass}
 use Rattle.points.specs.Types.{gateway, indexOf, logicals, point, height}
 use Rattle.points.specs.Place.{placeOf, first, offset}

@@ -1,13 +1,13 @@
 -- A list of parameters as an opcode reads or writes it.
 -- Assumes nothing.
-use Prim.Native.Nat.{ℕ, _+_, _*_, _≤_, _<_}
+use Prim.Native.Nat.{ℕ, _+_, _*_, _≤_}
 use mathlib.Core.Path.{_≡_}
 use mathlib.Core.Bool.{Bool, cond}
 use mathlib.Core.List.{List, []}
-use lib.ListN.{length, getD, drop}
+use lib.ListN.{length, drop}
 use Rattle.base.specs.Check.{Check, fault, pass}
 use Rattle.base.specs.Lists.{put}
-use Rattle.points.specs.Types.{gateway, tables, logicals}
+use Rattle.points.specs.Types.{gateway}
 use Rattle.points.specs.Place.{storeSize, Here}
 use Rattle.store.specs.Store.{Write, stored}
 use Rattle.rules.specs.Asked.{Held}

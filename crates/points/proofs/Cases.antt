@@ -1,15 +1,15 @@
 -- The cases of `placeOf` for document 01's build, under the plain facts that the code's tests leave.
 -- Assumes nothing.
 use mathlib.Core.Path.{_≡_, refl, _∙_}
-use mathlib.Core.Bool.{Bool, true}
+use mathlib.Core.Bool.{true}
 use Prim.Native.Nat.{ℕ, _+_, _*_, _≤_, _<_}
 use native.Mathlib.Omega.{arith}
-use borrow.Author.Tests.{le-ltb, lt-ltb, ltb-true, ltb-false}
+use borrow.Author.Tests.{le-ltb, lt-ltb}
 use lib.Dec.{ltb}
 use lib.ListN.{getD, List·getD-eq-default}
 use mir.Syntax.{w64}
 use mir.Val.{Fits}
-use Rattle.base.proofs.Below.{below, at-below}
+use Rattle.base.proofs.Below.{at-below}
 use Rattle.points.specs.Types.{indexOf, point, height, logicals, counts, gateway}
 use Rattle.points.specs.Place.{first, base, each, within, lenAt, offset, placeOf, Here, spotOf}
 use Rattle.points.specs.Columns.{rowAt, beginnings}

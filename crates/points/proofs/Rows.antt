@@ -8,13 +8,13 @@ use native.Mathlib.Nat.{zero-add, add-zero, add-assoc, not-suc-le-zero, le-of-su
 use native.Mathlib.Omega.{arith}
 use borrow.Author.Tests.{ltb-true, ltb-false}
 use lib.Dec.{ltb}
-use lib.ListN.{length, getD, take, replicate, List·getD-map, List·getD-eq-default, length-map}
+use lib.ListN.{length, getD, take, length-replicate, getD-replicate, List·getD-map, List·getD-eq-default, length-map}
 use Rattle.base.specs.Lists.{sum, joined}
 use Rattle.base.proofs.Below.{at-below, small, entry-small}
 use Rattle.base.proofs.Sums.{inside}
 use Rattle.base.proofs.Joined.{joined-at}
 use Rattle.points.specs.Row.{Row, noRow}
-use Rattle.points.specs.Types.{Point, points, noPoint, point, height, row, counts, logicals, gateway}
+use Rattle.points.specs.Types.{segments, Point, points, noPoint, point, height, row, Build, counts, logicals}
 use Rattle.points.specs.Place.{lens, first, within, lenAt, rowLen}
 use Rattle.points.specs.Columns.{rowsOf, rowAt, starts, startsOf, beginnings, readsOf, writesOf, readLevels, writeLevels}
 
@@ -28,14 +28,10 @@ length-starts : (xs : List ℕ) (a : ℕ) → length (starts a xs) ≡ length xs
 length-starts [] a = refl
 length-starts (x ∷ xs) a = ap suc (length-starts xs (a + x))
 
-replicate-at : (n x k : ℕ) → k < n → getD (replicate n x) k 0 ≡ x
-replicate-at zero x k h = absurd (not-suc-le-zero h)
-replicate-at (suc n) x zero h = refl
-replicate-at (suc n) x (suc k) h = replicate-at n x k (le-of-suc-le-suc h)
-
-length-replicate : (n x : ℕ) → length (replicate n x) ≡ n
-length-replicate zero x = refl
-length-replicate (suc n) x = ap suc (length-replicate n x)
+-- the rows of type 124 are the last
+pub first-segment : first segments ≡ 161
+unfolding first
+first-segment = refl
 
 -- a parameter's row is one of the 175
 pub row-below : (i k : ℕ) → k < height (point i) → first i + k < 175
@@ -77,11 +73,11 @@ row-begins i k h =
 
 pub row-reads : (i k : ℕ) → k < height (point i) → getD readLevels (first i + k) 0 ≡ point i .reads
 unfolding readLevels
-row-reads i k h = column-at readsOf refl (λ p. length-replicate (height p) (p .reads)) i k h ∙ replicate-at _ _ k h
+row-reads i k h = column-at readsOf refl (λ p. length-replicate (height p) (p .reads)) i k h ∙ getD-replicate _ k _ 0 h
 
 pub row-writes : (i k : ℕ) → k < height (point i) → getD writeLevels (first i + k) 0 ≡ point i .writes
 unfolding writeLevels
-row-writes i k h = column-at writesOf refl (λ p. length-replicate (height p) (p .writes)) i k h ∙ replicate-at _ _ k h
+row-writes i k h = column-at writesOf refl (λ p. length-replicate (height p) (p .writes)) i k h ∙ getD-replicate _ k _ 0 h
 
 -- no value is longer than 40 bytes: one test over the types
 pub len-small : (i k : ℕ) → lenAt i k ≤ 40
@@ -95,10 +91,10 @@ len-small i k = go (ltb i 6) refl
         rw z zero-le
 
 -- a type with a logical is one of the six
-pub six : (i l : ℕ) → l < logicals gateway i → i < 6
+pub six : (b : Build) (i l : ℕ) → l < logicals b i → i < 6
 unfolding logicals
-six i l h = go (ltb i 6) refl
+six b i l h = go (ltb i 6) refl
   where
-    go : (b : Bool) → ltb i 6 ≡ b → i < 6
+    go : (x : Bool) → ltb i 6 ≡ x → i < 6
     go true e = ltb-true i 6 e
-    go false e = absurd (not-suc-le-zero (rw (List·getD-eq-default (counts gateway) 0 (ltb-false i 6 e)) at h))
+    go false e = absurd (not-suc-le-zero (rw (List·getD-eq-default (counts b) 0 (ltb-false i 6 e)) at h))

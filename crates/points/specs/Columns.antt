@@ -3,7 +3,7 @@
 use Prim.Native.Nat.{ℕ, _+_, _-_, _^_, _<_}
 use mathlib.Core.Path.{_≡_}
 use mathlib.Core.List.{List, [], _∷_, map}
-use lib.ListN.{length, getD, replicate}
+use lib.ListN.{getD, replicate}
 use Rattle.base.specs.Lists.{joined}
 use Rattle.points.specs.Row.{Row, Kind, text, unsigned, signed, single, double, tlp, Access, readWrite, readOnly, readOnlyFirst, Range, any, between, status, rate, size, number, Default, figure, words, softPoint, segment, fullFirst, noRow}
 use Rattle.points.specs.Types.{Point, points, height}

@@ -3,7 +3,7 @@
 use Prim.Native.Nat.{ℕ, _+_, _*_, _<_}
 use mathlib.Core.Bool.{Bool, true, false}
 use mathlib.Core.List.{List, map}
-use lib.ListN.{length, getD, take}
+use lib.ListN.{getD, take}
 use lib.Dec.{ltb}
 use Rattle.base.specs.Lists.{sum, zipped}
 use Rattle.points.specs.Row.{Row}

@@ -5,7 +5,7 @@ use Prim.Native.String.{String}
 use mathlib.Core.List.{List, [], _∷_, _++_}
 use lib.ListN.{replicate}
 use Rattle.base.specs.Bytes.{ascii}
-use Rattle.points.specs.Row.{Row, Kind, text, unsigned, signed, single, double, tlp, Access, readWrite, readOnly, readOnlyFirst, any, between, status, rate, size, number, figure, words, softPoint, segment, fullFirst}
+use Rattle.points.specs.Row.{Row, text, unsigned, signed, single, double, tlp, Access, readWrite, readOnly, readOnlyFirst, any, between, status, rate, size, number, figure, words, softPoint, segment, fullFirst}
 
 -- ---- lines that the manual repeats
 

@@ -2,7 +2,7 @@
 -- Assumes nothing.
 use Prim.Native.Nat.{ℕ, _*_}
 use mathlib.Core.Path.{_≡_, refl}
-use mathlib.Core.List.{List, [], _∷_, map}
+use mathlib.Core.List.{[], _∷_, map}
 use lib.ListN.{length}
 use Rattle.base.specs.Lists.{sum, zipped}
 use Rattle.points.specs.Types.{Point, points, height, counts, gateway}

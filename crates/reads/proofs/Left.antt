@@ -1,6 +1,6 @@
 -- What is left of the check of a list at a turn of the loop, and each way out. The pieces so far are no local of the code.
 -- Assumes nothing.
-use Prim.Native.Nat.{ℕ, zero, suc, _+_, _-_, _*_, _≤_, _<_}
+use Prim.Native.Nat.{ℕ, zero, suc, _+_, _-_, _≤_, _<_}
 use native.Mathlib.Omega.{arith}
 use mathlib.Core.Path.{_≡_, refl, sym, ap, _∙_}
 use mathlib.Core.Bool.{false}
@@ -8,7 +8,7 @@ use mathlib.Core.List.{List, [], _∷_}
 use borrow.Author.Tests.{le-leb, lt-leb, eq-eqb, ne-eqb}
 use lib.ListN.{length, getD, take, drop, length-drop, length-take}
 use lib.Seq.{drop-drop, length-take-le}
-use Rattle.base.specs.Check.{Check, fault, pass, _>>=_}
+use Rattle.base.specs.Check.{Check, _>>=_}
 use Rattle.base.specs.Lists.{sum}
 use Rattle.base.proofs.Checks.{passed, failed, on-pass, on-fault}
 use Rattle.points.specs.Types.{gateway, points, point}
@@ -16,11 +16,12 @@ use Rattle.points.specs.Place.{lens, lenAt}
 use Rattle.points.proofs.Rows.{len-small}
 use Rattle.store.specs.Store.{spanOf}
 use Rattle.rules.specs.Entries as rules
-use Rattle.rules.specs.Entries.{Named, spoken, after, next}
+use Rattle.rules.specs.Entries.{Named, spoken, next}
 use Rattle.rules.specs.Deeds.{Piece, plain, held, sizes}
 use Rattle.rules.specs.Lists.{readLevel, ends, fitting, reading}
+use Rattle.rules.proofs.Found.{Stands}
 use Rattle.lists.specs.Walks.{levelBy, spokenOf, sourceAt, entryOf, nextOf, Findable}
-use Rattle.lists.proofs.Sources.{level-read, after-one, spoken-same, is-fault, is-pass, spoken-there, Stands, stands}
+use Rattle.lists.proofs.Sources.{level-read, after-one, spoken-same, is-fault, is-pass, spoken-there, stands}
 use Rattle.lists.specs.declared.Entry.{Entry}
 use Rattle.lists.specs.declared.Source.{Source}
 use Rattle.lists.specs.declared.Source.the-variants.{Block, Named as NamedS, Located}
@@ -81,7 +82,7 @@ module _ (who : rules.Caller) (src : Source) (d bs : List ℕ) where
         unfolding entry-is
         said = is-pass here found f .1 .1
 
-        pub it-stands : Findable src e d at bs → Stands entry-is
+        pub it-stands : Findable src e d at bs → Stands gateway entry-is
         unfolding here entry-is
         it-stands w = stands readLevel who src e d at bs w (is-pass here found f .1 .0)
 

@@ -3,24 +3,23 @@
 use Prim.Native.Nat.{ℕ, _+_, _≤_, _<_}
 use native.Mathlib.Omega.{arith}
 use mathlib.Core.Path.{_≡_, refl, sym, ap, ap₂, _∙_}
-use mathlib.Core.List.{List, [], _∷_, _++_}
-use lib.ListN.{length, getD, take, drop, length-append}
+use mathlib.Core.List.{List, _++_}
+use lib.ListN.{length, getD, take, length-append}
 use lib.Seq.{length-take-le}
 use Rattle.base.specs.Lists.{part, put}
 use Rattle.base.proofs.Parts.{put-join, length-part}
-use Rattle.points.specs.Types.{gateway, points, point, tables, logicals, height}
-use Rattle.points.specs.Place.{offset, lenAt, storeSize, Here, spotOf}
+use Rattle.points.specs.Types.{gateway, points, point, tables}
+use Rattle.points.specs.Place.{offset, lenAt, Here, spotOf}
 use Rattle.points.specs.declared.Spot.{Spot}
 use Rattle.points.proofs.Laws.{fits}
-use Rattle.store.specs.Store.{values}
-use Rattle.store.proofs.Laws.{value-length}
-use Rattle.rules.specs.Deeds.{Piece, plain, held, shown, told, sizes}
+use Rattle.store.specs.Store.{value, values}
+use Rattle.store.proofs.Laws.{values-one}
+use Rattle.rules.specs.Deeds.{shown, told, sizes}
 use Rattle.lists.specs.declared.Source.{Source}
 use Rattle.lists.specs.declared.Source.the-variants.{Block, Named as NamedS, Located}
 use Rattle.reads.specs.Listed.{opening}
 use Rattle.reads.specs.Telling.{Openable, Opened}
 use Rattle.reads.proofs.Left.{span-one}
-use Rattle.reads.proofs.Told.{value-one}
 
 module _ (src : Source) (d s r : List ℕ) (h : Openable src d s r) where
   pub room-named : src ≡ NamedS → (7 ≤ length r) × (1 ≤ length d)
@@ -60,7 +59,7 @@ module _ (src : Source) (d s r : List ℕ) (h : Openable src d s r) where
 
   pub opened-located : (r₁ r₂ : List ℕ) (z : Spot) → src ≡ Located → r₁ ≡ put r 6 (part d 0 3) → z ≡ spotOf gateway tables (getD d 0 0) 0
       → r₂ ≡ put r₁ 9 (part s (z .begin) 4) → Opened src d s r r₂ 13
-  unfolding told shown part
+  unfolding told shown part value
   opened-located r₁ r₂ z e w ez w₂ =
       let a : List ℕ = take 3 d in
       let la : length a ≡ 3 = length-take-le 3 d (three e) in
@@ -68,7 +67,7 @@ module _ (src : Source) (d s r : List ℕ) (h : Openable src d s r) where
       let v : List ℕ = part s (z .begin) 4 in
       let lv : length v ≡ 4 = length-part s (z .begin) 4 (omega (arith, fits gateway tables (getD d 0 0) 0 (h .table e), revision-long, h .whole)) in
       let ev : values gateway s tables (getD d 0 0) 0 1 ≡ v =
-      value-one s tables (getD d 0 0) 0 ∙ ap₂ (λ (c m : ℕ). part s c m) (sym b) revision-long in
+      values-one gateway s tables (getD d 0 0) 0 ∙ ap₂ (λ (c m : ℕ). part s c m) (sym b) revision-long in
       let six : 6 + length a ≡ 9 = omega (arith, la) in
       rw e (record {
         behind = omega (arith, la, revision-long, span-one tables 0);
@@ -80,12 +79,12 @@ module _ (src : Source) (d s r : List ℕ) (h : Openable src d s r) where
 
   -- as long as its pieces say
   pub opening-long : length (told gateway s (opening src d)) ≡ sizes (opening src d)
-  unfolding told shown
+  unfolding told shown value
   opening-long = go src h
     where
       go : (src : Source) → Openable src d s r → length (told gateway s (opening src d)) ≡ sizes (opening src d)
       go (Block i l k) o = absurd (o .start .no-block i l k refl)
       go NamedS o = omega arith
       go Located o =
-          let v = ap length (value-one s tables (getD d 0 0) 0) ∙ revision-part o in
+          let v = ap length (values-one gateway s tables (getD d 0 0) 0) ∙ revision-part o in
           simp length-append (omega (arith, v, span-one tables 0, revision-long))

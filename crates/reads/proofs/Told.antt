@@ -2,35 +2,34 @@
 -- Assumes nothing.
 use Prim.Native.Nat.{ℕ, zero, suc, _+_, _-_, _≤_, _<_}
 use native.Mathlib.Omega.{arith}
-use mathlib.Core.Path.{_≡_, refl, sym, ap, ap₂, _∙_}
+use mathlib.Core.Path.{_≡_, sym, ap, ap₂, _∙_}
 use mathlib.Core.Bool.{false}
-use mathlib.Core.List.{List, [], _∷_, _++_, append-nil}
+use mathlib.Core.List.{List, _++_}
 use borrow.Author.Tests.{leb-true}
-use lib.ListN.{length, getD, take, drop, length-drop, length-append}
+use lib.ListN.{length, take, drop, length-drop, length-append}
 use lib.Seq.{length-take-le}
-use Rattle.base.specs.Check.{Check, fault, pass, _>>=_}
+use Rattle.base.specs.Check.{pass, _>>=_}
 use Rattle.base.specs.Lists.{part, put}
 use Rattle.base.proofs.Checks.{first-passes}
-use Rattle.base.proofs.Parts.{length-put, put-join, length-part}
-use Rattle.points.specs.Types.{gateway, points, point, tables, logicals, height}
-use Rattle.points.specs.Place.{offset, lenAt, storeSize, Here, spotOf}
-use Rattle.points.specs.declared.Spot.{Spot}
+use Rattle.base.proofs.Parts.{put-join, length-part}
+use Rattle.points.specs.Types.{gateway}
+use Rattle.points.specs.Place.{offset, lenAt, storeSize}
 use Rattle.points.proofs.Laws.{fits}
-use Rattle.store.specs.Store.{value, values, spanOf}
-use Rattle.store.proofs.Laws.{value-length}
+use Rattle.store.specs.Store.{value, values}
+use Rattle.store.proofs.Laws.{value-length, values-one}
 use Rattle.rules.specs.Entries as rules
 use Rattle.rules.specs.Entries.{Named, next}
-use Rattle.rules.specs.Deeds.{Piece, plain, held, shown, told, sizes}
+use Rattle.rules.specs.Deeds.{Piece, shown, told, sizes}
 use Rattle.rules.specs.Lists.{ends, fitting, reading}
+use Rattle.rules.proofs.Found.{Stands}
 use Rattle.lists.specs.Walks.{levelBy, spokenOf, sourceAt, entryOf, nextOf, Findable}
-use Rattle.lists.proofs.Sources.{is-fault, Stands}
+use Rattle.lists.proofs.Sources.{is-fault}
 use Rattle.lists.specs.declared.Entry.{Entry}
 use Rattle.lists.specs.declared.Source.{Source}
-use Rattle.lists.specs.declared.Source.the-variants.{Block, Named as NamedS, Located}
 use Rattle.lists.specs.declared.Next.{Next}
 use Rattle.lists.specs.declared.Next.the-variants.{Found, Fault as FaultN}
-use Rattle.reads.specs.Listed.{fromOf, countOf, opening, listed, Begun}
-use Rattle.reads.specs.Telling.{piecesOf, Openable, Opened}
+use Rattle.reads.specs.Listed.{fromOf, countOf, opening, listed}
+use Rattle.reads.specs.Telling.{piecesOf}
 use Rattle.reads.proofs.Left.{told-of, span-one, entry-is, within, said, it-stands, onward, here, found}
 
 -- a check that passes has passed its size all the way
@@ -42,11 +41,6 @@ never-over who src (suc n) d at ps h =
     let x = first-passes _ h in
     let y = never-over who _ n _ _ _ (x .1 .1) in
     omega arith
-
--- one value
-pub value-one : (s : List ℕ) (i l k : ℕ) → values gateway s i l k 1 ≡ part s (offset gateway i l k) (lenAt i k)
-unfolding values value
-value-one s i l k = append-nil _
 
 pub record Telling (who : rules.Caller) (src : Source) (d bs s r₀ r : List ℕ) (e at to : ℕ) : Type 0 where
   pub so-far : List Piece
@@ -86,7 +80,7 @@ module _ (who : rules.Caller) (src : Source) (d bs s r₀ : List ℕ) (passes : 
         q : Named
         q = entry-is who src d bs e at x ex y f n en
 
-        stand : Stands q
+        stand : Stands gateway q
         unfolding q
         stand = it-stands who src d bs e at x ex y f n en w
 
@@ -97,8 +91,7 @@ module _ (who : rules.Caller) (src : Source) (d bs s r₀ : List ℕ) (passes : 
         spoken-long = length-take-le n (drop at d) (rw (length-drop at d) (omega (arith, within who src d bs e at x ex y f n en i)))
 
         value-long : length (values gateway s (q .type) (q .logical) (q .parameter) 1) ≡ lenAt (q .type) (q .parameter)
-        unfolding value
-        value-long = ap length (value-one s (q .type) (q .logical) (q .parameter)) ∙ value-length gateway s whole (q .type) (q .logical) (q .parameter) (stand .logical)
+        value-long = ap length (values-one gateway s (q .type) (q .logical) (q .parameter)) ∙ value-length gateway s whole (q .type) (q .logical) (q .parameter) (stand .logical)
 
         len-is : y .len ≡ lenAt (q .type) (q .parameter)
         unfolding entryOf q
@@ -126,7 +119,7 @@ module _ (who : rules.Caller) (src : Source) (d bs s r₀ : List ℕ) (passes : 
 
         pub told-more : (r₁ r₂ : List ℕ) → r₁ ≡ put r to (part d at n) → r₂ ≡ put r₁ (to + n) (part s (y .begin) (y .len))
             → Telling who src d bs s r₀ r₂ (e + 1) (at + n) (to + (n + y .len))
-        unfolding told shown pieces part
+        unfolding told shown pieces part value
         told-more r₁ r₂ e₁ e₂ =
             record {
               so-far = pieces;
@@ -150,7 +143,7 @@ module _ (who : rules.Caller) (src : Source) (d bs s r₀ : List ℕ) (passes : 
                 let la : length a ≡ n = spoken-long in
                 let lv : length v ≡ y .len = length-part s (y .begin) (y .len) in-store in
                 let ta : 6 + length (t ++ a) ≡ to + n = rw length-append (omega (arith, end, la)) in
-                let ev : values gateway s (q .type) (q .logical) (q .parameter) 1 ≡ v = value-one s (q .type) (q .logical) (q .parameter) ∙ ap₂ (λ (c m : ℕ). part s c m) (sym begin-is) (sym len-is) in
+                let ev : values gateway s (q .type) (q .logical) (q .parameter) 1 ≡ v = values-one gateway s (q .type) (q .logical) (q .parameter) ∙ ap₂ (λ (c m : ℕ). part s c m) (sym begin-is) (sym len-is) in
                 let f₁ : r₁ ≡ put z 6 (t ++ a) = e₁ ∙ rw (w₀, ← end) (put-join z t a 6 (omega (arith, la, end, in-reply))) in
                 e₂ ∙ rw (f₁, ← ta) (put-join z (t ++ a) v 6 (omega (arith, lv, ta, in-reply))) ∙ ap (λ (b : List ℕ). put z 6 (t ++ a ++ b)) (sym ev)
 

@@ -3,12 +3,12 @@
 use Prim.Native.Nat.{ℕ}
 use mathlib.Core.Path.{_≡_, refl, sym, ap, _∙_}
 use mathlib.Core.Bool.{Bool, true, false, cond}
-use mathlib.Core.List.{List, [], append-nil}
+use mathlib.Core.List.{List, []}
 use borrow.Author.Tests.{ne-eqb}
-use lib.ListN.{take-append-drop}
 use Rattle.base.specs.Check.{Check, fault, pass}
 use Rattle.base.specs.Lists.{put}
 use Rattle.base.proofs.Checks.{Holds, faulty, passing, step}
+use Rattle.base.proofs.Parts.{put-none}
 use Rattle.points.specs.Types.{gateway}
 use Rattle.store.specs.Store.{stored}
 use Rattle.rules.specs.Deeds.{Deeds, told}
@@ -67,13 +67,9 @@ cond-same : (b : Bool) (r : List ℕ) → r ≡ cond b r r
 cond-same true r = refl
 cond-same false r = refl
 
-put-none : (r : List ℕ) → put r 6 [] ≡ r
-unfolding put
-put-none r = rw append-nil (take-append-drop 6 r)
-
 silent : (aloud : Bool) (s r : List ℕ) (d : Deeds) → d .says ≡ [] → r ≡ cond aloud (put r 6 (told gateway s (d .says))) r
 unfolding told
-silent aloud s r d e = rw e (cond-same aloud r ∙ ap (λ (x : List ℕ). cond aloud x r) (sym (put-none r)))
+silent aloud s r d e = rw e (cond-same aloud r ∙ ap (λ (x : List ℕ). cond aloud x r) (sym (put-none r 6)))
 
 told-acted : (aloud : Bool) (s c r r′ : List ℕ) (x : Done) (p : Check Deeds) → Holds (Reads c) p → Told x aloud s r r′ p → Acted aloud s s c c r r′ x p
 unfolding storeBy clockBy stored

@@ -1,7 +1,7 @@
 -- Two whole stores that agree in what everybody may read give every request and every system write the same plan: a check looks at the
 -- store only for the locations of type 99 and for the pairs of type 124.
 -- Assumes nothing.
-use Prim.Native.Nat.{ℕ, zero, suc, _<_}
+use Prim.Native.Nat.{ℕ, zero, suc}
 use native.Mathlib.Omega.{arith}
 use mathlib.Core.Path.{_≡_, refl}
 use mathlib.Core.List.{List, [], _∷_}
@@ -9,7 +9,7 @@ use borrow.Author.Tests.{leb-true, ltb-true}
 use lib.ListN.{length, getD, drop}
 use Rattle.base.specs.Lists.{All}
 use Rattle.base.proofs.Checks.{step-same, test-same, hold-same, both-same}
-use Rattle.points.specs.Types.{Build, logicals, point, height, tables}
+use Rattle.points.specs.Types.{Build, tables}
 use Rattle.points.specs.Place.{storeSize}
 use Rattle.store.specs.Store.{Write, stored}
 use Rattle.store.proofs.Laws.{Sound}
@@ -20,18 +20,18 @@ use Rattle.rules.specs.Lists.{writeLevel, entry, accepts, writing}
 use Rattle.rules.specs.Opcodes.{plan7, plan167, plan166, plan180, plan181, plan10, plan11, Opcode, read7, set8, read10, write11, write166, read167, read180, write181, unserved, plan}
 use Rattle.rules.specs.System.{setting}
 use Rattle.rules.proofs.Agree.{Agree, tables-open, together-same, values-same, stored-same}
-use Rattle.rules.proofs.Found.{is-placed, Ready, next-holds, ready-after}
+use Rattle.rules.proofs.Found.{Stands, is-placed, Ready, next-holds, ready-after}
 use Rattle.rules.proofs.Walks.{accepts-holds, entry-sound}
 
 module _ (b : Build) (s t : List ℕ) (ls : length s ≡ storeSize b) (lt : length t ≡ storeSize b) (same : Agree b 0 s t) where
-  accepts-same : (who : Caller) (ws : List Write) (p : Named) (d : List ℕ) (locked at : ℕ) → All (Sound b) ws → p .logical < logicals b (p .type)
-      → p .parameter < height (point (p .type)) → accepts b who s ws p d locked at ≡ accepts b who t ws p d locked at
+  accepts-same : (who : Caller) (ws : List Write) (p : Named) (d : List ℕ) (locked at : ℕ) → All (Sound b) ws → Stands b p
+      → accepts b who s ws p d locked at ≡ accepts b who t ws p d locked at
   unfolding accepts
-  accepts-same who ws p d locked at o hl hk =
+  accepts-same who ws p d locked at o w =
       step-same _ λ _. step-same _ λ long. step-same _ λ _.
       let ws′ : List Write = entry p d ∷ ws in
-      let o′ : All (Sound b) ws′ = (entry-sound b p d hl hk (leb-true _ _ long), o) in
-      test-same _ _ (together-same b (stored b s ws′) (stored b t ws′) (stored-same b 0 s t ls lt same ws′ o′) (p .type) (p .logical) (p .parameter) hl) refl
+      let o′ : All (Sound b) ws′ = (entry-sound b p d w (leb-true _ _ long), o) in
+      test-same _ _ (together-same b (stored b s ws′) (stored b t ws′) (stored-same b 0 s t ls lt same ws′ o′) (p .type) (p .logical) (p .parameter) (w .logical)) refl
 
   writing-same : (who : Caller) (src : Source) (n : ℕ) (d : List ℕ) (at : ℕ) (ws : List Write) → Ready b writeLevel who src n → All (Sound b) ws
       → writing b who s src n d at ws ≡ writing b who t src n d at ws
@@ -39,8 +39,8 @@ module _ (b : Build) (s t : List ℕ) (ls : length s ≡ storeSize b) (lt : leng
   writing-same who src zero d at ws r o = refl
   writing-same who src (suc n) d at ws r o =
       hold-same (next-holds b writeLevel who src n d at r) λ p f.
-      both-same (accepts-same who ws p (drop (spoken src) d) _ _ o (f .logical) (f .parameter)) (accepts-holds b who s ws p _ _ _) λ _ a.
-      writing-same who (after src) n _ _ _ (ready-after b writeLevel who src n r) (entry-sound b p _ (f .logical) (f .parameter) (a .long), o)
+      both-same (accepts-same who ws p (drop (spoken src) d) _ _ o (f .stands)) (accepts-holds b who s ws p _ _ _) λ _ a.
+      writing-same who (after src) n _ _ _ (ready-after b writeLevel who src n r) (entry-sound b p _ (f .stands) (a .long), o)
 
   module _ (c : List ℕ) (L : ℕ) (d : List ℕ) where
     abbrev one : Held

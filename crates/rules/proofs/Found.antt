@@ -15,10 +15,14 @@ use Rattle.rules.specs.Entries.{Caller, reaches, Named, Source, block, n
 pub is-placed : {b : Build} {t l k : ℕ} (e : There (placeOf b t l k)) → Placed b t l k (e .row) (e .begin) (e .long)
 is-placed e = placed _ _ _ _ _ _ _ (e .found)
 
--- a parameter of the build, with a level of its type that the caller reaches
-pub record Reached (b : Build) (level : Point → ℕ) (who : Caller) (p : Named) : Type 0 where
+-- a parameter of the build
+pub record Stands (b : Build) (p : Named) : Type 0 where
   pub logical : p .logical < logicals b (p .type)
   pub parameter : p .parameter < height (point (p .type))
+
+-- with a level of its type that the caller reaches
+pub record Reached (b : Build) (level : Point → ℕ) (who : Caller) (p : Named) : Type 0 where
+  pub stands : Stands b p
   pub enough : reaches who (level (point (p .type))) ≡ true
 
 module _ (b : Build) (level : Point → ℕ) (who : Caller) where
@@ -32,13 +36,13 @@ module _ (b : Build) (level : Point → ℕ) (who : Caller) where
   unfolding found
   found-holds t l k pt pl pk =
       step _ λ e. step _ λ h.
-      passing (record { logical = is-placed e .logical; parameter = is-placed e .parameter; enough = h })
+      passing (record { stands = record { logical = is-placed e .logical; parameter = is-placed e .parameter }; enough = h })
 
   pub next-holds : (src : Source) (n : ℕ) (d : List ℕ) (at : ℕ) → Ready src (suc n) → Holds (Reached b level who) (next b level who src d at)
   unfolding next
   next-holds (block i l k) n d at r =
       let h : k < height (point i) = omega arith in
-      passing (record { logical = r .0; parameter = h; enough = r .2 })
+      passing (record { stands = record { logical = r .0; parameter = h }; enough = r .2 })
   next-holds named n d at r = step _ λ _. found-holds _ _ _ _ _ _
   next-holds (located bs) n d at r = found-holds _ _ _ _ _ _
 

@@ -16,7 +16,8 @@ use Rattle.points.specs.Place.{storeSize}
 use Rattle.store.specs.Store.{value, Write, storing, stored}
 use Rattle.store.proofs.Laws.{Sound, Names, three?, names?, storing-there, storing-elsewhere, stored-length}
 use Rattle.values.specs.Judged.{judged}
-use Rattle.values.specs.Pairs.{Pair, none, sizes, periodic, daily, pair?, pairOf, paired, together}
+use Rattle.values.specs.Pairs.{pair?, pairOf, paired, together}
+use Rattle.values.proofs.Paired.{pair-depends}
 
 -- a value is in range: judged by its row, and its pair in store s
 abbrev pub Ranged : Build → List ℕ → Write → Type 0
@@ -35,15 +36,6 @@ InRange b s = (i l k : ℕ) → l < logicals b i → k < height (point i) → Ra
 abbrev pub Judged : Build → List ℕ → List Write → Type 0
 Judged b s [] = Unit {0}
 Judged b s (w ∷ ws) = Ranged b (stored b s (w ∷ ws)) w × Judged b s ws
-
--- ---- a pair depends on its own parameters
-
-pair-depends : (p : Pair) (l : ℕ) (g g′ : ℕ → List ℕ) → ((q : ℕ) → pairOf q ≡ p → g q ≡ g′ q) → paired p l g ≡ paired p l g′
-unfolding paired pairOf
-pair-depends none l g g′ h = refl
-pair-depends sizes l g g′ h = rw (h 1 refl, h 12 refl)
-pair-depends periodic l g g′ h = rw (h 3 refl, h 5 refl)
-pair-depends daily l g g′ h = rw (h 4 refl, h 6 refl)
 
 -- w is of the pair of parameter k of logical l of type 124
 abbrev Mates : Write → ℕ → ℕ → Type 0

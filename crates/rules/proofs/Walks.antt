@@ -1,6 +1,6 @@
 -- What the two walks keep to, at whatever entry they stand: pieces that the level may see, values that may be stored.
 -- Assumes nothing.
-use Prim.Native.Nat.{ℕ, zero, suc, _≤_, _<_}
+use Prim.Native.Nat.{ℕ, zero, suc, _≤_}
 use native.Mathlib.Omega.{arith}
 use mathlib.Core.Path.{_≡_, refl}
 use mathlib.Core.Bool.{true}
@@ -11,7 +11,7 @@ use lib.Seq.{length-take-le}
 use Rattle.base.specs.Check.{Check, fault, pass, from}
 use Rattle.base.specs.Lists.{All}
 use Rattle.base.proofs.Checks.{Holds, faulty, passing, step, step-with}
-use Rattle.points.specs.Types.{Build, logicals, point, height, row}
+use Rattle.points.specs.Types.{Build, point, row}
 use Rattle.points.specs.Place.{lenAt}
 use Rattle.store.specs.Store.{Write, stored}
 use Rattle.store.proofs.Laws.{Sound}
@@ -21,7 +21,7 @@ use Rattle.rules.specs.Entries.{Caller, request, reaches, mayWrite, Name
 use Rattle.rules.specs.Lists.{readLevel, writeLevel, reading, entry, accepts, writing}
 use Rattle.rules.proofs.Told.{Readable}
 use Rattle.rules.proofs.InRange.{Ranged, Judged}
-use Rattle.rules.proofs.Found.{Reached, Ready, next-holds, ready-after}
+use Rattle.rules.proofs.Found.{Stands, Reached, Ready, next-holds, ready-after}
 
 -- ---- reading
 
@@ -38,7 +38,7 @@ reading-tells b L src zero d at ps r q =
 reading-tells b L src (suc n) d at ps r q =
     step-with (next-holds b readLevel (request L) src n d at r) λ p f.
     reading-tells b L (after src) n _ _ _ (ready-after b readLevel (request L) src n r)
-    ((f .logical, omega (arith, f .parameter), leb-true _ _ (f .enough)), (tt, q))
+    ((f .stands .logical, omega (arith, f .stands .parameter), leb-true _ _ (f .enough)), (tt, q))
 
 -- ---- writing
 
@@ -75,15 +75,14 @@ accepts-holds b who s ws p d locked at =
     step _ λ free. step _ λ long. step-with (itself at _) λ _ alone. step _ λ pair.
     passing (record { free = free; long = leb-true _ _ long; ranged = (alone, pair) })
 
-pub entry-sound : (b : Build) (p : Named) (d : List ℕ) → p .logical < logicals b (p .type) → p .parameter < height (point (p .type))
-    → lenAt (p .type) (p .parameter) ≤ length d → Sound b (entry p d)
-entry-sound b p d hl hk long = record { logical = hl; parameter = hk; long = length-take-le _ _ long }
+pub entry-sound : (b : Build) (p : Named) (d : List ℕ) → Stands b p → lenAt (p .type) (p .parameter) ≤ length d → Sound b (entry p d)
+entry-sound b p d w long = record { logical = w .logical; parameter = w .parameter; long = length-take-le _ _ long }
 
 pub one-more : (b : Build) (who : Caller) (s : List ℕ) (ws : List Write) (p : Named) (d : List ℕ) → Reached b writeLevel who p → Accepted b who s ws p d
     → Puts b who s ws → Puts b who s (entry p d ∷ ws)
 one-more b who s ws p d f a c =
     record {
-      sound = (entry-sound b p d (f .logical) (f .parameter) (a .long), c .sound);
+      sound = (entry-sound b p d (f .stands) (a .long), c .sound);
       judged = (a .ranged, c .judged);
       allowed = (record { free = a .free; level = f .enough }, c .allowed);
     }

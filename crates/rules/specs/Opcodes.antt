@@ -16,7 +16,7 @@ use Rattle.points.specs.There.{There, there}
 use Rattle.store.specs.Store.{Write, values}
 use Rattle.rules.specs.Asked.{Held}
 use Rattle.rules.specs.Deeds.{Piece, plain, held, Deeds}
-use Rattle.rules.specs.Entries.{Caller, request, reaches, block, named, located}
+use Rattle.rules.specs.Entries.{request, reaches, block, named, located}
 use Rattle.rules.specs.Lists.{ends, fitting, reading, writing}
 
 -- a read leaves store and clock, a write the clock

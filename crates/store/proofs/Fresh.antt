@@ -1,21 +1,20 @@
--- What each parameter of the fresh store holds: its default, whichever the type, the logical and the parameter; and a fill, step by step.
+-- What each parameter of the fresh store holds: its default, whichever the type, the logical and the parameter; and where a fill goes on.
 -- Assumes nothing.
 use mathlib.Core.Path.{_≡_, refl, sym, ap, _∙_}
-use mathlib.Core.List.{List, [], _∷_, _++_, map}
+use mathlib.Core.List.{List, [], _∷_, map}
 use Prim.Native.Nat.{ℕ, zero, suc, _+_, _*_, _/_, _≤_, _<_}
-use native.Mathlib.Nat.{zero-mul, mul-zero, suc-mul, zero-add, add-assoc}
+use native.Mathlib.Nat.{zero-mul, suc-mul, zero-add, add-assoc}
 use native.Mathlib.Omega.{arith}
-use lib.ListN.{length, getD, take, drop, length-map, List·getD-map}
+use lib.ListN.{length, getD, take, length-map, List·getD-map}
 use lib.Seq.{take-length}
-use Rattle.base.specs.Lists.{part, put, sum, joined, upward, zipped}
+use Rattle.base.specs.Lists.{part, sum, joined, upward, zipped}
 use Rattle.base.specs.Bytes.{bytes, padded}
 use Rattle.base.proofs.Sums.{inside, step}
-use Rattle.base.proofs.Parts.{put-next}
 use Rattle.base.proofs.Joined.{joined-part, length-joined, part-part, upward-part, length-upward, zipped-at}
 use Rattle.points.specs.Row.{Row, Default, figure, words, softPoint, segment, fullFirst, noRow}
 use Rattle.points.specs.Types.{Point, points, noPoint, point, height, row, Build, counts, logicals}
 use Rattle.points.specs.Place.{rowLen, lens, each, area, areas, base, within, lenAt, offset, storeSize}
-use Rattle.points.proofs.Laws.{area-of, grown, fits}
+use Rattle.points.proofs.Laws.{area-of, grown}
 use Rattle.store.specs.Store.{value}
 use Rattle.store.specs.Fresh.{startOf, rowStart, defaultOf, logicalStart, typeStart, fresh}
 
@@ -107,7 +106,7 @@ value-fresh b i l k h =
     ∙ ap (λ (s : List ℕ). part s (l * each p + sum (take k (lens p))) (getD (lens p) k 0)) (type-part b i)
     ∙ within-type (logicals b i) p l k h
 
--- ---- a fill: where the next logical and the next type begin, and what a step adds
+-- ---- a fill: where the next logical and the next type begin
 
 pub next-logical : (b : Build) (i l : ℕ) → offset b i (suc l) 0 ≡ offset b i l (height (point i))
 unfolding offset within
@@ -119,14 +118,3 @@ next-logical b i l =
 pub next-type : (b : Build) (i : ℕ) → offset b (suc i) 0 0 ≡ offset b i (logicals b i) 0
 unfolding offset within base
 next-type b i = omega (arith, step (areas b) i, area-of b i, zero-mul (each (point (suc i))))
-
--- the fresh store's first a bytes, with those of s behind them
-unfoldable pub filled : Build → List ℕ → ℕ → List ℕ
-filled b s a = take a (fresh b) ++ drop a s
-
-pub filled-more : (b : Build) (s : List ℕ) (i l k : ℕ) → length s ≡ storeSize b → l < logicals b i
-    → put (filled b s (offset b i l k)) (offset b i l k) (defaultOf i l k) ≡ filled b s (offset b i l k + lenAt i k)
-unfolding filled value
-filled-more b s i l k whole h =
-    rw (← value-fresh b i l k h)
-    (put-next (fresh b) s (offset b i l k) (lenAt i k) (omega (arith, fits b i l k h, length-fresh b)) (whole ∙ sym (length-fresh b)))

@@ -2,12 +2,11 @@
 -- Assumes nothing.
 use mathlib.Core.Path.{_≡_, refl, sym, ap, _∙_}
 use mathlib.Core.Logic.{_⊎_, inl, inr}
-use mathlib.Core.List.{List, [], _∷_, _++_}
+use mathlib.Core.List.{List, [], _∷_, _++_, append-nil}
 use Prim.Native.Nat.{ℕ, zero, suc, _+_, _-_, _≤_, _<_}
 use native.Mathlib.Decide.{ℕ-discrete}
-use native.Mathlib.Nat.{suc-add, add-suc}
 use native.Mathlib.Omega.{arith}
-use lib.ListN.{length, getD, take, drop, length-drop, length-append, length-map}
+use lib.ListN.{length, take, drop, length-drop, length-append, length-map}
 use lib.Seq.{length-take-le, take-add, drop-drop, drop-cons}
 use Rattle.base.specs.Lists.{part, put, sum, All}
 use Rattle.base.proofs.Parts.{length-put, part-put, part-apart}
@@ -58,6 +57,10 @@ values-part b s i l k (suc n) h =
     ∙ ap (λ (v : List ℕ). take (lenAt i k) (drop a s) ++ take (spanOf i (suc k) n) v) (sym (drop-drop (lenAt i k) a s))
     ∙ sym (take-add (lenAt i k) (spanOf i (suc k) n) (drop a s))
     ∙ ap (λ (m : ℕ). take m (drop a s)) (sym (span-more i k n (omega arith)))
+
+pub values-one : (b : Build) (s : List ℕ) (i l k : ℕ) → values b s i l k 1 ≡ value b s i l k
+unfolding values
+values-one b s i l k = append-nil (value b s i l k)
 
 pub values-length : (b : Build) (s : List ℕ) → length s ≡ storeSize b → (i l k n : ℕ) → l < logicals b i → k + n ≤ height (point i)
     → length (values b s i l k n) ≡ spanOf i k n

@@ -3,12 +3,12 @@
 use Prim.Native.Nat.{ℕ, _+_, _≤_}
 use native.Mathlib.Nat.{add-zero}
 use native.Mathlib.Omega.{arith}
-use mathlib.Core.Path.{_≡_, refl, sym, ap, _∙_}
+use mathlib.Core.Path.{_≡_, sym, ap, _∙_}
 use mathlib.Core.Bool.{true}
 use mathlib.Core.List.{List, []}
 use borrow.Author.Tests.{eq-eqb, ne-eqb}
 use lib.ListN.{length, drop}
-use Rattle.base.specs.Check.{Check, fault, pass, _>>=_, test}
+use Rattle.base.specs.Check.{Check, _>>=_, test}
 use Rattle.points.specs.Types.{indexOf, gateway}
 use Rattle.points.specs.Place.{lenAt, placeOf, storeSize, Here}
 use Rattle.points.specs.Sums.{store-bytes}
@@ -26,6 +26,7 @@ use Rattle.lists.specs.declared.Source.the-variants.{Block, Located}
 use Rattle.lists.specs.declared.Checked.{Checked}
 use Rattle.lists.specs.declared.Checked.the-variants.{Pass, Fault}
 use Rattle.writes.specs.Walked.{checkedOf, writesOf, Writable, Keepable}
+use Rattle.writes.proofs.Answers.{is-fault, is-pass}
 
 -- the system, as the code names it
 abbrev pub itself : Caller
@@ -46,17 +47,6 @@ of-one {i} {l} {k} {i′} {l′} {k′} h z e one =
 
 no-table : {i l k : ℕ} → Block i l k ≡ Located → ⊥
 no-table z = let y : _≡_ {A = ℕ} 0 1 = cc in omega arith
-
--- what the code knows of a check by its number
-is-fault : {m p : ℕ} {x : Checked} (c : Check (List Write)) → x ≡ checkedOf c → x ≡ Fault m p → c ≡ fault m p
-unfolding checkedOf
-is-fault (fault n q) e h = cc
-is-fault (pass ws) e h = let z : _≡_ {A = ℕ} 0 1 = cc in absurd (omega arith)
-
-is-pass : {m : ℕ} {x : Checked} (c : Check (List Write)) → x ≡ checkedOf c → x ≡ Pass m → c ≡ pass (writesOf c)
-unfolding checkedOf
-is-pass (fault n q) e h = let z : _≡_ {A = ℕ} 0 1 = cc in absurd (omega arith)
-is-pass (pass ws) e h = refl
 
 module _ (s : List ℕ) (t l k : ℕ) (v : List ℕ) where
   pub uneven : (length s ≡ 12427 → ⊥) → record { outcome = 2; store = s } ≡ systemWrite gateway s t l k v
@@ -91,7 +81,7 @@ module _ (s : List ℕ) (t l k : ℕ) (v : List ℕ) where
 
       module _ (long : length v ≡ n) (i : ℕ) (ei : i ≡ indexOf t) where
         stands : Here gateway i l k
-        stands = record { type = six i l (rw ei (facts .logical)); logical = rw ei (facts .logical); parameter = rw ei (facts .parameter) }
+        stands = record { type = six gateway i l (rw ei (facts .logical)); logical = rw ei (facts .logical); parameter = rw ei (facts .parameter) }
 
         -- a block of one parameter is as long as the system writes at a time
         pub writable : Writable (callerOf itself) (Block i l k) 1 0 v v s
@@ -115,11 +105,11 @@ module _ (s : List ℕ) (t l k : ℕ) (v : List ℕ) where
         module _ (x : Checked) (ex : x ≡ checkedOf (Walk s i l k v)) where
           pub refused : (m p : ℕ) → x ≡ Fault m p → record { outcome = m; store = s } ≡ systemWrite gateway s t l k v
           unfolding systemWrite leaving
-          refused m p f = simp (setting-walks, is-fault (Walk s i l k v) ex f)
+          refused m p f = simp (setting-walks, is-fault (Walk s i l k v) (sym ex ∙ f))
 
           pub keepable : (m : ℕ) → x ≡ Pass m → Keepable (callerOf itself) (Block i l k) 1 0 v v s
-          keepable m f = record { writable = writable; passes = is-pass (Walk s i l k v) ex f }
+          keepable m f = record { writable = writable; passes = is-pass (Walk s i l k v) (sym ex ∙ f) }
 
           pub set : (m : ℕ) → x ≡ Pass m → (z : List ℕ) → z ≡ stored gateway s (writesOf (Walk s i l k v)) → record { outcome = 0; store = z } ≡ systemWrite gateway s t l k v
           unfolding systemWrite leaving
-          set m f z ez = ap (λ (y : List ℕ). record { outcome = 0; store = y }) ez ∙ sym (ap (leaving gateway s) (setting-walks ∙ is-pass (Walk s i l k v) ex f))
+          set m f z ez = ap (λ (y : List ℕ). record { outcome = 0; store = y }) ez ∙ sym (ap (leaving gateway s) (setting-walks ∙ is-pass (Walk s i l k v) (sym ex ∙ f)))

@@ -9,3 +9,4 @@ pub mod Judging
 pub mod Mates
 pub mod Verdicts
 pub mod Read
+pub mod SameReading

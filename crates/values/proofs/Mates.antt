@@ -13,10 +13,11 @@ use Rattle.base.specs.Bytes.{le}
 use Rattle.base.specs.Lists.{part, both}
 use Rattle.base.proofs.Below.{both-left, both-right}
 use Rattle.points.specs.Types.{gateway, segments, point, height}
-use Rattle.points.specs.Place.{first, lenAt, spotOf}
+use Rattle.points.specs.Place.{lenAt, spotOf}
 use Rattle.points.specs.Columns.{rowAt}
 use Rattle.points.specs.declared.Spot.{Spot}
 use Rattle.points.proofs.Laws.{fits}
+use Rattle.points.proofs.Rows.{first-segment}
 use Rattle.store.specs.Store.{value}
 use Rattle.values.specs.Pairs.{pairOf, paired, under}
 use Rattle.values.specs.Weighed.{changed, mated}
@@ -77,14 +78,10 @@ module _ (l : ℕ) (v : List ℕ) (g : ℕ → List ℕ) where
 
 -- ---- a row's pair
 
-first-row : first segments ≡ 161
-unfolding first
-first-row = refl
-
 module _ (s : List ℕ) (r l : ℕ) where
   pub before-pairs : (v : List ℕ) → r < 161 → true ≡ mated gateway s r l v
   unfolding mated
-  before-pairs v h = rw (first-row, lt-leb 161 r h)
+  before-pairs v h = rw (first-segment, lt-leb 161 r h)
 
   -- m is the mate that the code looked up
   module _ (d : List ℕ) (a : ℕ) (w : Weighable s r l d a) (h : 161 ≤ r) (m : ℕ) (e : m ≡ mateOf (r - 161)) where
@@ -92,7 +89,7 @@ module _ (s : List ℕ) (r l : ℕ) where
         (cond (ltb (r - 161) m) (inStep (r - 161) l (le v) (le (value gateway s segments l m))) (inStep m l (le (value gateway s segments l m)) (le v)))
         ≡ mated gateway s r l v
     unfolding mated
-    of-mate v = rw (first-row, le-leb 161 r h, e) (by-mate l v (value gateway s segments l) (r - 161) (omega (arith, w .row)))
+    of-mate v = rw (first-segment, le-leb 161 r h, e) (by-mate l v (value gateway s segments l) (r - 161) (omega (arith, w .row)))
 
     pub no-mate : (v : List ℕ) → m ≡ 0 → true ≡ mated gateway s r l v
     no-mate v f = rw (← of-mate v, eq-eqb m 0 f)
@@ -112,7 +109,7 @@ module _ (s : List ℕ) (r l : ℕ) where
           let t = both-right (eqb (rowAt r .len) 2) _ two in
           record {
             whole = w .whole;
-            logical = w .segment (rw first-row h);
+            logical = w .segment (rw first-segment h);
             parameter = ltb-true _ _ (both-left _ _ t);
             long = eqb-true _ _ (both-right (ltb m (height (point segments))) _ t);
           }

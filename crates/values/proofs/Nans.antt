@@ -1,7 +1,7 @@
 -- The patterns of a NaN, and the value that they stand for.
 -- Assumes nothing.
 use mathlib.Core.Path.{_≡_, refl, sym, subst, _∙_}
-use mathlib.Core.Bool.{Bool, true, false, not, false≢true}
+use mathlib.Core.Bool.{Bool, true, not, false≢true}
 use Prim.Native.Nat.{ℕ, _*_, _%_, _≤_, _<_}
 use lib.Dec.{T}
 use lib.Ieee.{Float, nan, inf, fin, Format, binary32, binary64, isNan, nanBits, ofBits, ones, hid, top, div}

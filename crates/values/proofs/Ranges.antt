@@ -1,9 +1,9 @@
 -- The cases of the ranges, by the tests that the code makes.
 -- Assumes nothing.
 use mathlib.Core.Path.{_≡_, refl, sym, _∙_}
-use mathlib.Core.Bool.{Bool, true, false}
+use mathlib.Core.Bool.{true, false}
 use mathlib.Core.List.{List, [], _∷_}
-use mathlib.Core.Logic.{_⊎_, inl, inr}
+use mathlib.Core.Logic.{inl, inr}
 use Prim.Native.Nat.{ℕ, _≤_, _<_}
 use native.Mathlib.Decide.{ℕ-discrete}
 use native.Mathlib.Omega.{arith}
@@ -11,7 +11,7 @@ use lib.Dec.{eqb, leb}
 use types.Run.{OneOf}
 use borrow.Author.Tests.{eq-eqb, ne-eqb}
 use Rattle.base.specs.Lists.{either}
-use Rattle.base.proofs.Below.{below, at-below}
+use Rattle.base.proofs.Below.{at-below}
 use Rattle.base.proofs.Tests.{either-off, either-true, both-true, both-false}
 use Rattle.values.specs.Judged.{rateOk, rates, among, sizeOk}
 

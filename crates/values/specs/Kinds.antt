@@ -6,7 +6,6 @@ use mathlib.Core.List.{List, [], _∷_}
 use lib.ListN.{getD}
 use lib.Dec.{leb, ltb, eqb}
 use lib.IntN.{ℤ, pos, negsuc}
-use lib.Signed.{leZ, ltZ}
 use Rattle.base.specs.Lists.{both, either}
 use Rattle.base.specs.Bytes.{le}
 use Rattle.points.specs.Row.{Kind, text, unsigned, signed, single, double, tlp}

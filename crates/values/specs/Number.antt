@@ -1,6 +1,7 @@
 -- The number read: a parameter as an unsigned, a signed, a single or a double.
 -- Assumes nothing.
 use Prim.Native.Nat.{ℕ}
+use mathlib.Core.Bool.{cond}
 use mathlib.Core.List.{List}
 use lib.ListN.{length}
 use lib.Dec.{eqb}
@@ -53,6 +54,18 @@ raw single v = pass (record { kind = 2; bits = le v })
 raw double v = pass (record { kind = 3; bits = le v })
 raw tlp v = fault 27 0
 
+-- the number that kind and bits say
+unfoldable pub numberOf : (kind bits : ℕ) → Number
+numberOf k n =
+    cond (eqb k 0) (Unsigned n) (cond (eqb k 1) (Signed (signedOf n)) (cond (eqb k 2) (Single (ofBits binary32 n)) (Double (ofBits binary64 n))))
+
+-- which of the four a number is, as C has it
+unfoldable pub kindOf : Number → ℕ
+kindOf (Unsigned n) = 0
+kindOf (Signed z) = 1
+kindOf (Single x) = 2
+kindOf (Double x) = 3
+
 unfoldable pub rawRead : Build → List ℕ → ℕ → ℕ → ℕ → Check Raw
 rawRead b s t l k = do
   _ ← test (eqb (length s) (storeSize b)) 2 0
@@ -68,3 +81,7 @@ pub record Told : Type 0 where
 unfoldable pub telling : ℕ → ℕ → Check Raw → Told
 telling k n (fault o p) = record { outcome = o; kind = k; bits = n }
 telling k n (pass x) = record { outcome = 0; kind = x .kind; bits = x .bits }
+
+-- what C is told, as the answer of the other call
+unfoldable pub readingIn : Told → Reading
+readingIn x = cond (eqb (x .outcome) 0) (Got (numberOf (x .kind) (x .bits))) (Refused (x .outcome))

@@ -1,11 +1,11 @@
 -- A value is accepted by the rules exactly where the code admits it and, if it is a text, finds each of its bytes printable.
 -- Assumes nothing.
-use Prim.Native.Nat.{ℕ, _+_, _-_, _≤_, _<_}
+use Prim.Native.Nat.{ℕ, _+_, _-_, _<_}
 use native.Mathlib.Nat.{add-zero}
 use native.Mathlib.Omega.{arith}
 use mathlib.Core.Path.{_≡_, refl, sym, ap, _∙_}
 use mathlib.Core.Bool.{Bool, true, false}
-use mathlib.Core.List.{List, [], _∷_}
+use mathlib.Core.List.{List, _∷_}
 use borrow.Author.Tests.{eq-eqb, ne-eqb, leb-true, eqb-true}
 use lib.Dec.{leb, eqb}
 use lib.ListN.{length, take}
@@ -14,10 +14,10 @@ use Rattle.base.specs.Check.{Check, fault, pass, _>>=_, test, from}
 use Rattle.base.specs.Lists.{All, both, only}
 use Rattle.base.proofs.Below.{at-below, both-left, both-right}
 use Rattle.points.specs.Row.{Row, Kind, text, unsigned, signed, single, double, tlp, Range, any, between, status, rate, size, number}
-use Rattle.points.specs.Types.{point, points, row, gateway, segments, height, logicals}
+use Rattle.points.specs.Types.{row, gateway, segments}
 use Rattle.points.specs.Place.{first, lenAt, storeSize}
 use Rattle.points.specs.Columns.{rowAt, rowKind, kindCode}
-use Rattle.points.proofs.Rows.{row-at, row-length, row-below, six}
+use Rattle.points.proofs.Rows.{row-at, row-length, row-below, six, first-segment}
 use Rattle.store.specs.Store.{value, Write, stored}
 use Rattle.store.proofs.Laws.{Sound}
 use Rattle.values.specs.Kinds.{printed, ofKind}
@@ -27,7 +27,7 @@ use Rattle.values.specs.Weighed.{changed, mated, weighed}
 use Rattle.rules.specs.Entries as rules
 use Rattle.rules.specs.Entries.{Named, mayWrite}
 use Rattle.rules.specs.Lists.{entry, accepts}
-use Rattle.lists.proofs.Sources.{Stands}
+use Rattle.rules.proofs.Found.{Stands}
 use Rattle.writes.specs.Admitted.{unless, admitted}
 use Rattle.writes.proofs.Admitting.{two}
 use Rattle.writes.proofs.Mates.{Earlier, pairCode, as-arrived}
@@ -119,10 +119,6 @@ texts-plain : (r : ℕ) → r < 175 → plain-text r ≡ true
 unfolding plain-text rowAt pairOf
 texts-plain r h = at-below 175 plain-text refl r h
 
-first-segment : first segments ≡ 161
-unfolding first
-first-segment = refl
-
 is-none : (p : Pair) → pairCode p ≡ 0 → p ≡ none
 is-none none e = refl
 is-none sizes e = absurd (omega arith)
@@ -152,7 +148,7 @@ judged-text x l v ek er b eb = rw (ek, er, eb) refl
 -- ---- an entry
 
 module _ (who : rules.Caller) (s : List ℕ) (ws : List Write) (q : Named) (d : List ℕ) (locked at : ℕ)
-    (w : Stands q) (whole : length s ≡ storeSize gateway) (sound : All (Sound gateway) ws) (e : Earlier who ws) where
+    (w : Stands gateway q) (whole : length s ≡ storeSize gateway) (sound : All (Sound gateway) ws) (e : Earlier who ws) where
   abbrev pub r : ℕ
   r = first (q .type) + q .parameter
 
@@ -190,7 +186,7 @@ module _ (who : rules.Caller) (s : List ℕ) (ws : List Write) (q : Named) (d : 
   mate-is : m ≡ true → t ≡ true → together gateway (stored gateway s (entry q d ∷ ws)) (q .type) (q .logical) (q .parameter) ≡ mated gateway s r (q .logical) v
   unfolding m t
   mate-is em et =
-      as-arrived who s whole ws sound e (q .type) (q .logical) (q .parameter) _ (six (q .type) (q .logical) (w .logical))
+      as-arrived who s whole ws sound e (q .type) (q .logical) (q .parameter) _ (six gateway (q .type) (q .logical) (w .logical))
       (record { logical = w .logical; parameter = w .parameter; long = length-take-le _ d (leb-true _ _ et) }) em
 
   rules-are : accepts gateway who s ws q d locked at ≡ Rules m t j (mated gateway s r (q .logical) v) locked (at + length d) at

@@ -7,7 +7,7 @@ use mathlib.Core.Bool.{Bool, true, false}
 use mathlib.Core.List.{List}
 use borrow.Author.Tests.{le-leb, lt-leb, eq-eqb, ne-eqb}
 use lib.Dec.{leb, eqb}
-use lib.ListN.{length, take, drop, length-drop}
+use lib.ListN.{length, drop, length-drop}
 use Rattle.base.specs.Check.{Check, fault, pass, _>>=_, test, from}
 use Rattle.base.specs.Lists.{part}
 use Rattle.base.proofs.Checks.{passed, failed}
@@ -16,14 +16,12 @@ use Rattle.points.specs.Columns.{rowAt, rowKind}
 use Rattle.values.specs.Kinds.{ofKind}
 use Rattle.values.specs.Judged.{inRange, judged}
 use Rattle.values.specs.Weighed.{mated, weighed, judgementOf}
-use Rattle.values.specs.Weighable.{Weighable}
 use Rattle.values.specs.declared.Judgement.{Judgement}
 use Rattle.values.specs.declared.Judgement.the-variants.{Fine, Bad}
 use Rattle.rules.specs.Entries as rules
 use Rattle.rules.specs.Entries.{mayWrite}
-use Rattle.lists.specs.declared.Entry.{Entry}
 use Rattle.lists.specs.declared.Checked.the-variants.{Pass, Fault}
-use Rattle.writes.specs.Admitted.{unless, admitted, admittedOf, Admissible}
+use Rattle.writes.specs.Admitted.{unless, admitted, admittedOf}
 
 -- every fault of a value is at its first byte
 abbrev pub two : Bool → Bool → Check Unit
@@ -104,10 +102,5 @@ module _ (who : rules.Caller) (s : List ℕ) (r l : ℕ) (d : List ℕ) (locked 
 -- the place of a bad value fits a byte
 pub bad-place : (s : List ℕ) (r l : ℕ) (v : List ℕ) {m o : ℕ} {j : Judgement} → j ≡ judgementOf (weighed gateway s r l v) → j ≡ Bad m o → o ≡ 0
 bad-place s r l v ej f = weighed-first s r l v (is-bad _ (sym ej ∙ f))
-
-pub weighable : {entry : Entry} {locked : ℕ} {d : List ℕ} {start : ℕ} {s : List ℕ} (x n : ℕ) → Admissible entry locked d start s
-    → x ≡ rowKind (rowAt (entry .row)) → (x ≡ 0 → ⊥) → n ≡ entry .len → n ≤ length d - start → Weighable s (entry .row) (entry .logical) d start
-weighable x n a ex h en k =
-    record { row = a .row; no-text = λ z. h (ex ∙ z); room = omega (arith, a .long, a .inside); whole = a .whole; segment = a .segment }
 
 pub ruleset admit·cases = (admit-locked, admit-short, admit-text, admit-fine, admit-bad)

@@ -7,18 +7,16 @@ use mathlib.Core.Bool.{true}
 use mathlib.Core.List.{List, [], _∷_}
 use borrow.Author.Tests.{leb-true}
 use lib.ListN.{length, take, drop, length-drop}
-use lib.Seq.{length-take-le}
-use Rattle.base.specs.Check.{Check, fault, pass, _>>=_}
-use Rattle.base.specs.Lists.{All, part, put}
+use Rattle.base.specs.Check.{pass, _>>=_}
+use Rattle.base.specs.Lists.{part, put}
 use Rattle.base.proofs.Checks.{on-pass, first-passes}
 use Rattle.points.specs.Types.{gateway}
-use Rattle.points.specs.Place.{offset, lenAt, storeSize}
+use Rattle.points.specs.Place.{offset, lenAt}
 use Rattle.points.proofs.Laws.{fits}
 use Rattle.store.specs.Store.{Write, storing, stored}
-use Rattle.store.proofs.Laws.{Sound}
 use Rattle.rules.specs.Entries as rules
 use Rattle.rules.specs.Entries.{Named, next}
-use Rattle.rules.specs.Lists.{writeLevel, ends, entry, accepts, writing}
+use Rattle.rules.specs.Lists.{ends, entry, accepts, writing}
 use Rattle.lists.specs.Walks.{levelBy, spokenOf, sourceAt, nextOf}
 use Rattle.lists.proofs.Sources.{is-fault}
 use Rattle.lists.specs.declared.Entry.{Entry}
@@ -26,7 +24,7 @@ use Rattle.lists.specs.declared.Source.{Source}
 use Rattle.lists.specs.declared.Next.{Next}
 use Rattle.lists.specs.declared.Next.the-variants.{Found, Fault as FaultN}
 use Rattle.writes.specs.Admitted.{lockedAtOf}
-use Rattle.writes.specs.Walked.{writesOf, Writable, Keepable}
+use Rattle.writes.specs.Walked.{writesOf, Keepable}
 use Rattle.writes.proofs.Left.{Whole, here, found, q, it-stands, within, len-is, begin-is, past}
 
 pub record Keeping (who : rules.Caller) (s : List ℕ) (src : Source) (count from : ℕ) (d bs r : List ℕ) (e at : ℕ) : Type 0 where

@@ -1,18 +1,18 @@
 -- What is left of the check of a list at a turn of the loop, and each way out. The values so far are no local of the code.
 -- Assumes nothing.
-use Prim.Native.Nat.{ℕ, suc, _+_, _-_, _*_, _≤_, _<_}
+use Prim.Native.Nat.{ℕ, suc, _+_, _-_, _≤_, _<_}
 use native.Mathlib.Decide.{ℕ-discrete}
 use native.Mathlib.Omega.{arith}
 use mathlib.Core.Path.{_≡_, refl, sym, ap, ap₂, _∙_}
-use mathlib.Core.Bool.{Bool, true, false}
+use mathlib.Core.Bool.{true, false}
 use mathlib.Core.List.{List, [], _∷_}
-use borrow.Author.Tests.{le-leb, lt-leb, eq-eqb, ne-eqb, leb-true}
-use lib.ListN.{length, getD, take, drop, length-drop}
+use borrow.Author.Tests.{eq-eqb, ne-eqb, leb-true}
+use lib.ListN.{length, take, drop, length-drop}
 use lib.Seq.{drop-drop, length-take-le}
-use Rattle.base.specs.Check.{Check, fault, pass, _>>=_, test}
+use Rattle.base.specs.Check.{Check, fault, pass, _>>=_}
 use Rattle.base.specs.Lists.{All, part}
 use Rattle.base.proofs.Checks.{passed, failed, on-pass, on-fault, first-passes}
-use Rattle.points.specs.Types.{gateway, segments, logicals, row, point, height}
+use Rattle.points.specs.Types.{gateway, segments, logicals, row}
 use Rattle.points.specs.Place.{first, offset, lenAt, storeSize}
 use Rattle.points.specs.Columns.{rowAt, rowKind}
 use Rattle.points.proofs.Rows.{row-below, row-length, six}
@@ -20,10 +20,11 @@ use Rattle.store.specs.Store.{Write}
 use Rattle.store.proofs.Laws.{Sound}
 use Rattle.values.specs.Kinds.{printed}
 use Rattle.rules.specs.Entries as rules
-use Rattle.rules.specs.Entries.{Named, request, system, mayWrite, spoken, after, next, lockedPlace}
+use Rattle.rules.specs.Entries.{Named, request, system, spoken, after, next, lockedPlace}
 use Rattle.rules.specs.Lists.{writeLevel, ends, entry, accepts, writing}
+use Rattle.rules.proofs.Found.{Stands}
 use Rattle.lists.specs.Walks.{levelBy, spokenOf, sourceAt, entryOf, nextOf, Findable}
-use Rattle.lists.proofs.Sources.{level-write, after-one, spoken-same, is-fault, is-pass, spoken-there, Stands, stands}
+use Rattle.lists.proofs.Sources.{level-write, after-one, spoken-same, is-fault, is-pass, spoken-there, stands}
 use Rattle.lists.specs.declared.Entry.{Entry}
 use Rattle.lists.specs.declared.Source.{Source}
 use Rattle.lists.specs.declared.Source.the-variants.{Block, Named as NamedS, Located}
@@ -115,7 +116,7 @@ module _ (who : rules.Caller) (s : List ℕ) (src : Source) (count from : ℕ) (
         unfolding q
         said = is-pass here found f .1 .1
 
-        pub it-stands : Stands q
+        pub it-stands : Stands gateway q
         unfolding here
         it-stands = stands writeLevel who src e d at bs (findable e at more i) here-is
 
@@ -216,7 +217,7 @@ module _ (who : rules.Caller) (s : List ℕ) (src : Source) (count from : ℕ) (
         pub asked-by : (z : Checked) (c : ℕ) → c ≡ lockedAtOf src at → z ≡ admittedOf (admitted who s (y .row) (y .logical) D c (at + n)) → z ≡ admittedOf Asked
         asked-by z c ec ez = ez ∙ ap (λ (p : ℕ). admittedOf (admitted who s (y .row) (y .logical) D p (at + n))) ec
 
-        stand : Stands Q
+        stand : Stands gateway Q
         stand = it-stands e at more i x ex y f n en
 
         kind-is : rowKind (rowAt (y .row)) ≡ rowKind (rowAt (first (Q .type) + Q .parameter))
@@ -318,7 +319,7 @@ module _ (who : rules.Caller) (s : List ℕ) (src : Source) (count from : ℕ) (
                 let z : logicals gateway (Q .type) ≡ logicals gateway segments = ap (logicals gateway) t in
                 omega (arith, stand .logical, logical-is e at more i x ex y f n en, z)
             go (no t) =
-                let z : Q .type < 6 = six (Q .type) (Q .logical) (stand .logical) in
+                let z : Q .type < 6 = six gateway (Q .type) (Q .logical) (stand .logical) in
                 let u : Q .type < segments = omega arith in
                 absurd (omega (arith, earlier-row (Q .type) (Q .parameter) u (stand .parameter), row-is e at more i x ex y f n en))
 

@@ -4,3 +4,4 @@ pub mod Accepting
 pub mod Texts
 pub mod Left
 pub mod Kept
+pub mod Answers

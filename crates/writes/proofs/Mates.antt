@@ -1,19 +1,19 @@
 -- The pair of a value is judged in the store that the value makes. The mate of what a request may write is read-only, so the store as it
 -- arrived has it: no copy of the store is needed.
 -- Assumes nothing.
-use Prim.Native.Nat.{ℕ, zero, suc, _+_, _-_, _≤_, _<_}
+use Prim.Native.Nat.{ℕ, _+_, _-_, _≤_, _<_}
 use native.Mathlib.Decide.{ℕ-discrete}
 use native.Mathlib.Omega.{arith}
 use mathlib.Core.Path.{_≡_, refl, sym, ap, _∙_}
 use mathlib.Core.Bool.{Bool, true, false, cond, not}
 use mathlib.Core.List.{List, [], _∷_, map}
-use borrow.Author.Tests.{eq-eqb, ne-eqb, le-leb, lt-leb, ltb-true, ltb-false, eqb-true, not-true}
+use borrow.Author.Tests.{eq-eqb, ne-eqb, le-leb, lt-leb, ltb-true, ltb-false}
 use lib.Dec.{eqb, leb, ltb}
-use lib.ListN.{length, getD, List·getD-map, List·getD-eq-default}
-use Rattle.base.specs.Lists.{All, both, either, only}
+use lib.ListN.{length, List·getD-map, List·getD-eq-default}
+use Rattle.base.specs.Lists.{All, either, only}
 use Rattle.base.proofs.Below.{below, at-below}
 use Rattle.base.proofs.Sums.{before}
-use Rattle.points.specs.Row.{Row, Access, readWrite, readOnly, readOnlyFirst, lockedAt, noRow}
+use Rattle.points.specs.Row.{Access, readWrite, readOnly, readOnlyFirst, lockedAt}
 use Rattle.points.specs.Types.{points, noPoint, point, height, row, gateway, segments, logicals}
 use Rattle.points.specs.Place.{first, lenAt, storeSize}
 use Rattle.store.specs.Store.{value, Write, storing, stored}

@@ -1,6 +1,5 @@
 -- `frame::close` meets its contract: heading and CRC make a frame of the data between them.
 -- Assumes nothing.
-use native.Mathlib.Omega.{arith}
 use borrow.Author.Needs.{needs}
 use Rattle.frame.proofs.Written.{closed}
 use Rattle.frame.proofs.close.Statement.{statement}

@@ -1,7 +1,6 @@
 -- `reads::begin_reply` meets its contract, list by list.
 -- Assumes nothing.
 use borrow.Author.Needs.{needs}
-use mathlib.Core.Path.{_≡_, sym, _∙_}
 use Rattle.reads.proofs.Opened.{room-named, room-located, table-byte, table-here, room-revision, opened-block, opened-named, opened-located}
 use Rattle.reads.proofs.begin_reply.Statement.{statement}
 use Rattle.reads.proofs.begin_reply.Tie as tie

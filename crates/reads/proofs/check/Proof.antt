@@ -1,9 +1,9 @@
 -- `reads::check` meets its contract: what is left of the check equals the whole, with pieces so far that the code has only the size of.
 -- Assumes nothing.
 use borrow.Author.Needs.{needs}
-use Prim.Native.Nat.{ℕ, _+_, _-_, _*_, _≤_}
+use Prim.Native.Nat.{_+_, _-_, _*_, _≤_}
 use native.Mathlib.Omega.{arith}
-use mathlib.Core.Path.{_≡_, refl, sym, ap, _∙_}
+use mathlib.Core.Path.{_≡_, ap}
 use lib.ListN.{length}
 use Rattle.lists.specs.Walks.{callerOf, spokenOf}
 use Rattle.lists.proofs.Sources.{spoken-small}

@@ -2,7 +2,6 @@
 -- Assumes nothing.
 use borrow.Author.Needs.{needs}
 use native.Mathlib.Omega.{arith}
-use mathlib.Core.Path.{_∙_}
 use Rattle.base.proofs.Checks.{on-fault}
 use Rattle.rules.specs.Opcodes.{plan167}
 use Rattle.opcodes.proofs.Plans.{told-fault}

@@ -1,7 +1,6 @@
 -- `opcodes::blocks::write` meets its contract, by the cases of its plan.
 -- Assumes nothing.
 use borrow.Author.Needs.{needs}
-use mathlib.Core.Path.{_≡_}
 use Rattle.base.proofs.Checks.{on-fault}
 use Rattle.rules.specs.Opcodes.{plan166}
 use Rattle.opcodes.proofs.Plans.{kept-fault}

@@ -1,7 +1,6 @@
 -- `opcodes::named::write` meets its contract, by the cases of its plan.
 -- Assumes nothing.
 use borrow.Author.Needs.{needs}
-use mathlib.Core.Path.{_≡_}
 use Rattle.opcodes.proofs.Plans.{namely-short, namely-none, namely-storable, namely-kept}
 use Rattle.opcodes.proofs.named.write.Statement.{statement}
 use Rattle.opcodes.proofs.named.write.Tie as tie
