@@ -13,7 +13,7 @@ use crate::step::{Call, Request, Step};
 use crate::unit::{Answer, Unit};
 
 /// The program's folder, from the repository's root.
-pub const FOLDER: &str = "crates.pending/cases";
+pub const FOLDER: &str = "crates/cases";
 
 /// What the frames are made from.
 const SEED: u64 = 5;
