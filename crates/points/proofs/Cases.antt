@@ -1,23 +1,25 @@
 -- The cases of `placeOf` for document 01's build, under the plain facts that the code's tests leave.
 -- Assumes nothing.
-use mathlib.Core.Path.{_≡_, refl, _∙_}
+use mathlib.Core.Path.{_≡_, refl, sym}
 use mathlib.Core.Bool.{true}
-use Prim.Native.Nat.{ℕ, _+_, _*_, _≤_, _<_}
+use Prim.Native.Nat.{ℕ, _+_, _-_, _*_, _≤_, _<_}
+use native.Mathlib.Numerals.{add-one}
 use native.Mathlib.Omega.{arith}
 use borrow.Author.Tests.{le-ltb, lt-ltb}
 use lib.Dec.{ltb}
-use lib.ListN.{getD, List·getD-eq-default}
+use lib.ListN.{List·getD-eq-default}
 use mir.Syntax.{w64}
 use mir.Val.{Fits}
 use Rattle.base.proofs.Below.{at-below}
+use Rattle.base.proofs.Sums.{step}
 use Rattle.points.specs.Types.{indexOf, point, height, logicals, counts, gateway}
-use Rattle.points.specs.Place.{first, base, each, within, lenAt, offset, placeOf, Here, spotOf}
-use Rattle.points.specs.Columns.{rowAt, beginnings}
+use Rattle.points.specs.Place.{lens, first, base, each, within, withinOf, lenAt, offset, placeOf, Here, spotOf}
+use Rattle.points.specs.declared.Within.{Within}
 use Rattle.points.specs.declared.Spot.{Spot}
 use Rattle.points.specs.declared.Place.the-variants.{At, NoType, NoLogical, NoParameter}
 use Rattle.points.specs.Sums.{store-bytes}
 use Rattle.points.proofs.Laws.{fits}
-use Rattle.points.proofs.Rows.{row-below, row-length, row-begins}
+use Rattle.points.proofs.Rows.{row-below}
 
 -- the build has logicals of each of the six types, and of no other
 has-some : (i : ℕ) → i < 6 → ltb 0 (logicals gateway i) ≡ true
@@ -60,8 +62,14 @@ module _ (i l k : ℕ) (w : Here gateway i l k) (f : ℕ) (ef : f ≡ first i) w
   pub row-fits : Fits w64 (f + k)
   row-fits = record { fits = omega (arith, in-rows) }
 
-  begins : (x : ℕ) → x ≡ getD beginnings (f + k) 0 → x ≡ within i k
-  begins x ex = ex ∙ rw ef (row-begins i k (w .parameter))
+  -- where it begins and ends within its logical
+  module _ (e : Within) (ee : e ≡ withinOf i k) where
+    long : e .begin + lenAt i k ≡ e .end
+    unfolding within lenAt
+    long = rw (ee, add-one) (sym (step (lens (point i)) k))
+
+    pub ends-behind : e .begin ≤ e .end
+    ends-behind = omega (arith, long)
 
   module _ (c a : ℕ) (eb : c ≡ base gateway i) (ea : a ≡ each (point i)) where
     in-store : c + l * a + within i k ≤ 12427
@@ -74,17 +82,17 @@ module _ (i l k : ℕ) (w : Here gateway i l k) (f : ℕ) (ef : f ≡ first i) w
     pub logical-fits : Fits w64 (c + l * a)
     logical-fits = record { fits = omega (arith, in-store) }
 
-    pub begin-fits : (x : ℕ) → x ≡ getD beginnings (f + k) 0 → Fits w64 (c + l * a + x)
-    begin-fits x ex = let y = begins x ex in record { fits = omega (arith, in-store) }
+    pub begin-fits : (e : Within) → e ≡ withinOf i k → Fits w64 (c + l * a + e .begin)
+    begin-fits e ee = rw ee (record { fits = omega (arith, in-store) })
 
-    pub is-spot : (x n : ℕ) → x ≡ getD beginnings (f + k) 0 → n ≡ rowAt (f + k) .len
-        → record { row = f + k; begin = c + l * a + x; len = n } ≡ spotOf gateway i l k
+    pub is-spot : (e : Within) → e ≡ withinOf i k
+        → record { row = f + k; begin = c + l * a + e .begin; len = e .end - e .begin } ≡ spotOf gateway i l k
     unfolding offset
-    is-spot x n ex en =
-        let y : x ≡ within i k = begins x ex in
-        let z : n ≡ lenAt i k = en ∙ rw ef (row-length i k (w .parameter)) in
+    is-spot e ee =
+        let z : e .end - e .begin ≡ lenAt i k = omega (arith, long e ee) in
+        let y : e .begin ≡ within i k = rw ee refl in
         cc
 
 pub ruleset placeOf·cases = (no-type, no-logical, no-parameter, is-there, here)
 
-pub ruleset spot·cases = (in-rows, row-fits, area-fits, logical-fits, begin-fits, is-spot)
+pub ruleset spot·cases = (in-rows, row-fits, area-fits, logical-fits, ends-behind, begin-fits, is-spot)

@@ -1,6 +1,6 @@
 -- A row's number: the rows of all types in one list, each type's from its first on; so each column by row is that of type and parameter.
 -- Assumes nothing.
-use mathlib.Core.Path.{_≡_, refl, sym, ap, _∙_}
+use mathlib.Core.Path.{_≡_, refl, sym, ap, ap₂, _∙_}
 use mathlib.Core.List.{List, [], _∷_, map}
 use mathlib.Core.Bool.{Bool, true, false}
 use Prim.Native.Nat.{ℕ, zero, suc, _+_, _≤_, _<_, zero-le}
@@ -15,8 +15,8 @@ use Rattle.base.proofs.Sums.{inside}
 use Rattle.base.proofs.Joined.{joined-at}
 use Rattle.points.specs.Row.{Row, noRow}
 use Rattle.points.specs.Types.{segments, Point, points, noPoint, point, height, row, Build, counts, logicals}
-use Rattle.points.specs.Place.{lens, first, within, lenAt, rowLen}
-use Rattle.points.specs.Columns.{rowsOf, rowAt, starts, startsOf, beginnings, readsOf, writesOf, readLevels, writeLevels}
+use Rattle.points.specs.Place.{lens, first, within, withinOf, lenAt, rowLen}
+use Rattle.points.specs.Columns.{rowsOf, rowAt, starts, edges, readsOf, writesOf, readLevels, writeLevels}
 
 -- where the k-th of a run of lengths begins: the sum of those before it
 pub starts-at : (xs : List ℕ) (a k : ℕ) → k < length xs → getD (starts a xs) k 0 ≡ a + sum (take k xs)
@@ -24,9 +24,12 @@ starts-at [] a k h = absurd (not-suc-le-zero h)
 starts-at (x ∷ xs) a zero h = sym (add-zero a)
 starts-at (x ∷ xs) a (suc k) h = starts-at xs (a + x) k (le-of-suc-le-suc h) ∙ add-assoc a x (sum (take k xs))
 
-length-starts : (xs : List ℕ) (a : ℕ) → length (starts a xs) ≡ length xs
-length-starts [] a = refl
-length-starts (x ∷ xs) a = ap suc (length-starts xs (a + x))
+-- the same where the last of them ends too
+edges-at : (xs : List ℕ) (a k : ℕ) → k ≤ length xs → getD (edges a xs) k 0 ≡ a + sum (take k xs)
+edges-at [] a zero h = sym (add-zero a)
+edges-at [] a (suc k) h = absurd (not-suc-le-zero h)
+edges-at (x ∷ xs) a zero h = sym (add-zero a)
+edges-at (x ∷ xs) a (suc k) h = edges-at xs (a + x) k (le-of-suc-le-suc h) ∙ add-assoc a x (sum (take k xs))
 
 -- the rows of type 124 are the last
 pub first-segment : first segments ≡ 161
@@ -64,12 +67,37 @@ module _ (column : Point → List ℕ) (none : column noPoint ≡ []) (long : (p
       let e : getD (map column points) i [] ≡ column (getD points i noPoint) = rw (← none) (List·getD-map column points i noPoint) in
       rw (← lengths points) (joined-at 0 (map column points) i k (rw (e, long (getD points i noPoint)) h)) ∙ ap (λ (l : List ℕ). getD l k 0) e
 
-pub row-begins : (i k : ℕ) → k < height (point i) → getD beginnings (first i + k) 0 ≡ within i k
-unfolding within beginnings
-row-begins i k h =
-    let n : k < length (lens (point i)) = rw (length-map (point i .rows) rowLen) h in
-    column-at startsOf refl (λ p. length-starts (lens p) 0 ∙ length-map (p .rows) rowLen) i k h
-    ∙ starts-at (lens (point i)) 0 k n ∙ zero-add (sum (take k (lens (point i))))
+length-edges : (xs : List ℕ) (a : ℕ) → length (edges a xs) ≡ suc (length xs)
+length-edges [] a = refl
+length-edges (x ∷ xs) a = ap suc (length-edges xs (a + x))
+
+-- a type's table of beginnings, j being the type's index as the code knows it
+pub within-at : (i j k : ℕ) → i ≡ j → k < height (point i)
+    → record { begin = getD (edges 0 (lens (point j))) k 0; end = getD (edges 0 (lens (point j))) (k + 1) 0 } ≡ withinOf i k
+unfolding within
+within-at i j k e h =
+    let xs : List ℕ = lens (point j) in
+    let n : length xs ≡ height (point j) = length-map (point j .rows) rowLen in
+    let m : k < height (point j) = rw (← e) h in
+    rw e
+    (ap₂ (λ (a b : ℕ). record { begin = a; end = b })
+    (edges-at xs 0 k (omega arith) ∙ zero-add (sum (take k xs)))
+    (edges-at xs 0 (k + 1) (omega arith) ∙ zero-add (sum (take (k + 1) xs))))
+
+pub in-edges : (i j k : ℕ) → i ≡ j → k < height (point i) → k + 1 < length (edges 0 (lens (point j)))
+in-edges i j k e h =
+    let m : k < height (point j) = rw (← e) h in
+    omega (arith, length-edges (lens (point j)) 0, length-map (point j .rows) rowLen)
+
+-- what is none of the first five is the sixth
+pub sixth : (i : ℕ) → i < 6 → ((((Unit {0} × (i ≡ 0 → ⊥)) × (i ≡ 1 → ⊥)) × (i ≡ 2 → ⊥)) × (i ≡ 3 → ⊥)) × (i ≡ 4 → ⊥) → i ≡ 5
+sixth zero h q = absurd (q .0 .0 .0 .0 .1 refl)
+sixth (suc zero) h q = absurd (q .0 .0 .0 .1 refl)
+sixth (suc (suc zero)) h q = absurd (q .0 .0 .1 refl)
+sixth (suc (suc (suc zero))) h q = absurd (q .0 .1 refl)
+sixth (suc (suc (suc (suc zero)))) h q = absurd (q .1 refl)
+sixth (suc (suc (suc (suc (suc zero))))) h q = refl
+sixth (suc (suc (suc (suc (suc (suc i)))))) h q = absurd (omega arith)
 
 pub row-reads : (i k : ℕ) → k < height (point i) → getD readLevels (first i + k) 0 ≡ point i .reads
 unfolding readLevels

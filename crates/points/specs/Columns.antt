@@ -119,13 +119,10 @@ abbrev pub starts : ℕ → List ℕ → List ℕ
 starts a [] = []
 starts a (x ∷ xs) = a ∷ starts (a + x) xs
 
-abbrev pub startsOf : Point → List ℕ
-startsOf p = starts 0 (lens p)
-
--- where each row begins within its logical
-unfoldable pub beginnings : List ℕ
-unfolding points
-beginnings = joined (map startsOf points)
+-- the same, with where the last of them ends
+abbrev pub edges : ℕ → List ℕ → List ℕ
+edges a [] = a ∷ []
+edges a (x ∷ xs) = a ∷ edges (a + x) xs
 
 -- what a fill leaves: the number that stands for its form, and the number that it is where it is one
 abbrev pub defaultCode : Default → ℕ

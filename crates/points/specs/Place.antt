@@ -9,6 +9,7 @@ use Rattle.base.specs.Lists.{sum, zipped}
 use Rattle.points.specs.Row.{Row}
 use Rattle.points.specs.Types.{Point, points, point, height, indexOf, Build, counts, logicals, gateway, row}
 use Rattle.points.specs.declared.Spot.{Spot}
+use Rattle.points.specs.declared.Within.{Within}
 use Rattle.points.specs.declared.Place.{Place}
 use Rattle.points.specs.declared.Place.the-variants.{At, NoType, NoLogical, NoParameter}
 
@@ -41,6 +42,9 @@ base b i = sum (take i (areas b))
 -- where parameter k begins within its logical, and how long it is
 unfoldable pub within : ℕ → ℕ → ℕ
 within i k = sum (take k (lens (point i)))
+
+abbrev pub withinOf : ℕ → ℕ → Within
+withinOf i k = record { begin = within i k; end = within i (k + 1) }
 
 unfoldable pub lenAt : ℕ → ℕ → ℕ
 lenAt i k = getD (lens (point i)) k 0

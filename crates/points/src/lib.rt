@@ -3,10 +3,10 @@ mod columns;
 
 ghost use mathlib.Core.Path.{_≡_};
 ghost use Prim.Native.Nat.{_+_, _<_, _≤_};
-ghost use lib.ListN.{getD};
+ghost use lib.ListN.{length, getD};
 ghost use Rattle.points.specs.Types.{indexOf, point, height, logicals, gateway};
-ghost use Rattle.points.specs.Place.{first, base, each, placeOf, Here, spotOf};
-ghost use Rattle.points.specs.Columns.{rowAt, rowKind, rowAccess, rowRange, rowLeast, rowMost, rowDefault, rowFigure, Bounds, readLevels, writeLevels, beginnings};
+ghost use Rattle.points.specs.Place.{first, base, each, placeOf, Here, withinOf, spotOf};
+ghost use Rattle.points.specs.Columns.{rowAt, rowKind, rowAccess, rowRange, rowLeast, rowMost, rowDefault, rowFigure, Bounds, readLevels, writeLevels};
 
 // A point type, a logical, a parameter and a count are four kinds of number.
 pub struct PointType(pub u8);
@@ -111,13 +111,6 @@ pub fn write_level_at(row: usize) -> u8
     columns::write_levels::WRITE_LEVELS[row]
 }
 
-fn beginning_at(row: usize) -> u16
-    requires { ⌜ row < 175 ⌝ }
-    ensures { λ r. ⌜ r ≡ getD beginnings row 0 ⌝ }
-{
-    columns::beginnings::BEGINNINGS[row]
-}
-
 // The columns by type.
 pub fn logicals_of(i: usize) -> u8
     requires { ⌜ i < 6 ⌝ }
@@ -170,6 +163,36 @@ pub fn index_of(t: PointType) -> usize
     }
 }
 
+// Where parameter k begins within its logical, and where it ends.
+pub struct Within {
+    pub begin: u16,
+    pub end: u16,
+}
+
+fn edges_in(table: &[u16], k: usize) -> Within
+    requires { ⌜ k + 1 < length (now table) ⌝ }
+    ensures { λ r. ⌜ r ≡ record { begin = getD (now (table .entry)) k 0; end = getD (now (table .entry)) (k + 1) 0 } ⌝ }
+{
+    Within {
+        begin: table[k],
+        end: table[k + 1],
+    }
+}
+
+fn within_of(i: usize, k: usize) -> Within
+    requires { ⌜ (i < 6) × (k < height (point i)) ⌝ }
+    ensures { λ r. ⌜ r ≡ withinOf i k ⌝ }
+{
+    match i {
+        0 => edges_in(&columns::beginnings::OF_97[..], k),
+        1 => edges_in(&columns::beginnings::OF_98[..], k),
+        2 => edges_in(&columns::beginnings::OF_99[..], k),
+        3 => edges_in(&columns::beginnings::OF_122[..], k),
+        4 => edges_in(&columns::beginnings::OF_123[..], k),
+        _ => edges_in(&columns::beginnings::OF_124[..], k),
+    }
+}
+
 // Parameter k of logical l of the i-th type.
 pub fn spot_at(i: usize, l: u8, k: usize) -> Spot
     requires { ⌜ Here gateway i l k ⌝ }
@@ -177,10 +200,11 @@ pub fn spot_at(i: usize, l: u8, k: usize) -> Spot
 {
     let row = first_of(i) as usize + k;
     let logical = base_of(i) as usize + l as usize * each_of(i) as usize;
+    let within = within_of(i, k);
     Spot {
         row,
-        begin: logical + beginning_at(row) as usize,
-        len: length_at(row) as usize,
+        begin: logical + within.begin as usize,
+        len: (within.end - within.begin) as usize,
     }
 }
 

@@ -32,20 +32,20 @@ mul-logical c = search (needs, spot·cases)
 add-logical : tie.Need-add-logical
 add-logical c = search (needs, spot·cases)
 
-beginning-at-requires : tie.Need-beginning-at-requires
-beginning-at-requires c κs = search (needs, spot·cases)
+within-of-requires : tie.Need-within-of-requires
+within-of-requires c κs = search needs
+
+cast-t8 : tie.Need-cast-t8
+cast-t8 c = search needs
+
+add-t13 : tie.Need-add-t13
+add-t13 c = search (needs, spot·cases)
+
+sub-t9 : tie.Need-sub-t9
+sub-t9 c = search (needs, spot·cases)
 
 cast-t12 : tie.Need-cast-t12
 cast-t12 c = search needs
-
-add-t11 : tie.Need-add-t11
-add-t11 c = search (needs, spot·cases)
-
-length-at-requires : tie.Need-length-at-requires
-length-at-requires c κs = search (needs, spot·cases)
-
-cast-t9 : tie.Need-cast-t9
-cast-t9 c = search needs
 
 returns : tie.Need-returns
 returns c = search (needs, spot·cases)
@@ -63,9 +63,9 @@ spot-at-spec =
     cast-logical-2
     mul-logical
     add-logical
-    beginning-at-requires
+    within-of-requires
+    cast-t8
+    add-t13
+    sub-t9
     cast-t12
-    add-t11
-    length-at-requires
-    cast-t9
     returns)

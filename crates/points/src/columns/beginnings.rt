@@ -1,15 +1,7 @@
-// Where a value begins within its logical.
-pub const BEGINNINGS: [u16; 175] = [
-    0,
-    10,
-    20,
-    30,
-    40,
-    50,
-    60,
-    70,
-    80,
-    90,
+// Where each parameter begins within its logical, a table for each type, with where the last one ends.
+pub const OF_97: [u16; 11] = [0, 10, 20, 30, 40, 50, 60, 70, 80, 90, 100];
+
+pub const OF_98: [u16; 63] = [
     0,
     40,
     44,
@@ -72,6 +64,10 @@ pub const BEGINNINGS: [u16; 175] = [
     262,
     266,
     270,
+    271,
+];
+
+pub const OF_99: [u16; 46] = [
     0,
     4,
     7,
@@ -117,6 +113,10 @@ pub const BEGINNINGS: [u16; 175] = [
     127,
     130,
     133,
+    136,
+];
+
+pub const OF_122: [u16; 25] = [
     0,
     1,
     2,
@@ -141,6 +141,10 @@ pub const BEGINNINGS: [u16; 175] = [
     115,
     116,
     120,
+    124,
+];
+
+pub const OF_123: [u16; 21] = [
     0,
     20,
     40,
@@ -161,18 +165,7 @@ pub const BEGINNINGS: [u16; 175] = [
     340,
     360,
     380,
-    0,
-    10,
-    12,
-    14,
-    16,
-    18,
-    20,
-    22,
-    23,
-    24,
-    25,
-    29,
-    30,
-    32,
+    400,
 ];
+
+pub const OF_124: [u16; 15] = [0, 10, 12, 14, 16, 18, 20, 22, 23, 24, 25, 29, 30, 32, 35];
