@@ -179,17 +179,36 @@ fn edges_in(table: &[u16], k: usize) -> Within
     }
 }
 
+// A table is made where it is used, and only there: an array in the arm is made in that arm alone.
 fn within_of(i: usize, k: usize) -> Within
     requires { ⌜ (i < 6) × (k < height (point i)) ⌝ }
     ensures { λ r. ⌜ r ≡ withinOf i k ⌝ }
 {
     match i {
-        0 => edges_in(&columns::beginnings::OF_97[..], k),
-        1 => edges_in(&columns::beginnings::OF_98[..], k),
-        2 => edges_in(&columns::beginnings::OF_99[..], k),
-        3 => edges_in(&columns::beginnings::OF_122[..], k),
-        4 => edges_in(&columns::beginnings::OF_123[..], k),
-        _ => edges_in(&columns::beginnings::OF_124[..], k),
+        0 => {
+            let table = columns::beginnings::OF_97;
+            edges_in(&table[..], k)
+        }
+        1 => {
+            let table = columns::beginnings::OF_98;
+            edges_in(&table[..], k)
+        }
+        2 => {
+            let table = columns::beginnings::OF_99;
+            edges_in(&table[..], k)
+        }
+        3 => {
+            let table = columns::beginnings::OF_122;
+            edges_in(&table[..], k)
+        }
+        4 => {
+            let table = columns::beginnings::OF_123;
+            edges_in(&table[..], k)
+        }
+        _ => {
+            let table = columns::beginnings::OF_124;
+            edges_in(&table[..], k)
+        }
     }
 }
 

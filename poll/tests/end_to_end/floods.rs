@@ -56,6 +56,7 @@ fn put_through(through: impl Fn(&Gateway, &mut Random)) {
     pair.host = gateway.host();
     pair.check_store();
     let after = gateway.resident();
+    println!("resident memory: {before} kB before, {after} kB after");
     assert!(after <= before + GROWTH, "from {before} kB to {after} kB");
     gateway.stop(SIGTERM);
 }
