@@ -1,13 +1,13 @@
 -- A list written piece by piece from its front: each piece behind the ones before makes one piece of them all.
 -- Assumes nothing.
 use mathlib.Core.Path.{_≡_, sym, ap, ap₂, _∙_}
-use mathlib.Core.List.{List, [], _∷_, _++_, append-assoc}
+use mathlib.Core.List.{List, [], _∷_, _++_, append-assoc, append-nil}
 use Prim.Native.Nat.{ℕ, _+_, _-_, _≤_}
 use native.Mathlib.Nat.{zero-add}
 use native.Mathlib.Numerals.{add-one}
 use native.Mathlib.Omega.{arith}
 use lib.ListN.{length, take, drop, set, length-append, length-drop, take-append-drop}
-use lib.Seq.{sets, sets-eq, take-at, drop-at, take-append-seam, drop-append-add, drop-drop, length-take-le}
+use lib.Seq.{sets, sets-eq, take-at, drop-at, take-append-seam, drop-append-add, drop-drop, drop-length, length-take-le}
 use Rattle.base.specs.Lists.{part, put, over}
 use Rattle.base.proofs.Parts.{length-part}
 
@@ -55,6 +55,11 @@ over-put s v w a hs hw =
 pub take-over : (s v : List ℕ) (n : ℕ) → length v ≡ n → take n (over s v) ≡ v
 unfolding over
 take-over s v n e = take-at v (drop (length v) s) n e
+
+-- as many as there are leave none of them
+pub over-whole : (s v : List ℕ) → length s ≡ length v → over s v ≡ v
+unfolding over
+over-whole s v e = ap (λ (n : ℕ). v ++ drop n s) (sym e) ∙ ap (λ (l : List ℕ). v ++ l) (drop-length s) ∙ append-nil v
 
 pub length-over : (s v : List ℕ) → length v ≤ length s → length (over s v) ≡ length s
 unfolding over

@@ -2,20 +2,15 @@
 -- Assumes nothing.
 use Prim.Native.Nat.{ℕ}
 use mathlib.Core.Path.{_≡_, sym, ap, _∙_}
-use mathlib.Core.List.{List, _++_, append-nil}
+use mathlib.Core.List.{List}
 use borrow.Author.Tests.{ne-eqb}
-use lib.ListN.{length, drop}
-use lib.Seq.{drop-length}
+use lib.ListN.{length}
 use Rattle.base.specs.Lists.{over}
+use Rattle.base.proofs.Written.{over-whole}
 use Rattle.clock.specs.Moments.{clockOf, clockBytes, tick}
 use Rattle.clock.specs.declared.Clock.{Clock}
 use Rattle.clock.specs.declared.Ticked.{Ticked}
 use Rattle.rules.specs.System.{ticking}
-
--- as many bytes as there are leave none of them
-over-whole : (k v : List ℕ) → length k ≡ length v → over k v ≡ v
-unfolding over
-over-whole k v e = ap (λ (n : ℕ). v ++ drop n k) (sym e) ∙ ap (λ (l : List ℕ). v ++ l) (drop-length k) ∙ append-nil v
 
 clock-over : (k : List ℕ) (m : Clock) → length k ≡ 7 → over k (clockBytes m) ≡ clockBytes m
 unfolding clockBytes

@@ -2,17 +2,17 @@
 -- Assumes nothing.
 use mathlib.Core.Path.{_≡_, refl, sym, ap, _∙_}
 use mathlib.Core.Bool.{Bool, true, false, cond}
-use mathlib.Core.List.{List, [], _∷_, _++_, append-nil}
+use mathlib.Core.List.{List, [], _∷_, _++_}
 use Prim.Native.Nat.{ℕ, _+_, _-_, _≤_, _<_}
 use native.Mathlib.Omega.{arith}
 use lib.ListN.{length, take, drop, set, length-append, length-drop}
-use lib.Seq.{take-length, drop-length, length-take-le}
+use lib.Seq.{take-length, length-take-le}
 use borrow.Author.Tests.{lt-ltb, le-ltb, le-leb, lt-leb, eq-eqb, ne-eqb}
 use Rattle.base.specs.Check.{Check, fault, pass, _>>=_, test}
 use Rattle.base.specs.Lists.{part, put, over}
 use Rattle.base.proofs.Checks.{passed, failed}
 use Rattle.base.proofs.Parts.{length-put, put-join}
-use Rattle.base.proofs.Written.{stored, put-first}
+use Rattle.base.proofs.Written.{stored, put-first, over-whole}
 use Rattle.clock.specs.Calendar.{monthDays}
 use Rattle.clock.specs.Moments.{clockOf, weekdayAt}
 use Rattle.clock.specs.declared.Clock.{Clock}
@@ -202,8 +202,7 @@ fault-kept k p n q e = rw e
 
 -- seven bytes in the place of seven
 seven-over : (k v : List ℕ) → length k ≡ 7 → length v ≡ 7 → put k 0 v ≡ v
-unfolding over
-seven-over k v a b = put-first k v ∙ ap (λ (n : ℕ). v ++ drop n k) (b ∙ sym a) ∙ ap (λ (l : List ℕ). v ++ l) (drop-length k) ∙ append-nil v
+seven-over k v a b = put-first k v ∙ over-whole k v (a ∙ sym b)
 
 module _ (L : ℕ) (d : List ℕ) where
   pub short-done : length d < 7 → Fault 21 (length d) ≡ doneOf (plan8 L d)
