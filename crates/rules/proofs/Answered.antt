@@ -1,7 +1,7 @@
 -- Every answer is one of three: not received, refused, acted on; with all that it leaves. The same of a system write, a fill and a tick.
 -- Assumes nothing.
 use Prim.Native.Nat.{ℕ, _+_, _≤_}
-use mathlib.Core.Path.{_≡_, refl}
+use mathlib.Core.Path.{_≡_, refl, subst}
 use mathlib.Core.Bool.{Bool, true, false, cond}
 use mathlib.Core.List.{List, [], _∷_}
 use borrow.Author.Tests.{leb-true, eqb-true}
@@ -34,19 +34,26 @@ pub record Received (b : Build) (a : Asked) (h : Held) (r : ℕ) : Type 0 where
   pub whole : length (h .store) ≡ storeSize b
   pub level : a .level ≤ 3
   pub clock : validClock (clockOf (h .clock)) ≡ true
+  pub eight : 8 ≤ length (a .frame)
   pub long : length (a .frame) ≤ longest
   pub exact : length (a .frame) ≡ dataLength (a .frame) + 8
 
 -- a frame of 8 + n bytes
-whole-holds : (f : List ℕ) → Holds (λ _. (length f ≤ longest) × (length f ≡ dataLength f + 8)) (whole f)
+whole-holds : (f : List ℕ) → Holds (λ _. (8 ≤ length f) × (length f ≤ longest) × (length f ≡ dataLength f + 8)) (whole f)
 unfolding whole
-whole-holds f = step _ λ _. step _ λ long. step _ λ exact. step _ λ _. passing (leb-true _ _ long, eqb-true _ _ exact)
+whole-holds f = step _ λ eight. step _ λ long. step _ λ exact. step _ λ _. passing (leb-true _ _ eight, leb-true _ _ long, eqb-true _ _ exact)
 
 received-holds : (b : Build) (a : Asked) (h : Held) (r : ℕ) → Holds (λ _. received b a h r ≡ pass tt → Received b a h r) (received b a h r)
 unfolding received
 received-holds b a h r =
     step _ λ room. step _ λ whole. step _ λ _. step _ λ level. step _ λ clock. step-with (whole-holds (a .frame)) λ _ f. step _ λ _.
-    passing (λ e. record { passed = e; room = leb-true _ _ room; whole = eqb-true _ _ whole; level = leb-true _ _ level; clock = clock; long = f .0; exact = f .1 })
+    passing (λ e. record { passed = e; room = leb-true _ _ room; whole = eqb-true _ _ whole; level = leb-true _ _ level; clock = clock; eight = f .0; long = f .1; exact = f .2 })
+
+pub received-is : (b : Build) (a : Asked) (h : Held) (r : ℕ) → received b a h r ≡ pass tt → Received b a h r
+received-is b a h r e = go (subst (Holds (λ _. received b a h r ≡ pass tt → Received b a h r)) e (received-holds b a h r))
+  where
+    go : Holds (λ (x : Unit {0}). received b a h r ≡ pass tt → Received b a h r) (pass tt) → Received b a h r
+    go (passing k) = k e
 
 pub data Answered (b : Build) (a : Asked) (h : Held) (r : List ℕ) : Answer → Type 0 where
   -- not a byte is written
