@@ -1,4 +1,4 @@
-// What a request that is received comes to: its opcode carried out, and the frame of an error.
+// The request, whole: refused, or its opcode carried out and its reply or an error framed.
 ghost use mathlib.Core.Path.{_≡_};
 ghost use mathlib.Core.List.{_∷_, []};
 ghost use Prim.Native.Nat.{_≤_};
