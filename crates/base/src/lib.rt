@@ -1,4 +1,6 @@
 // What every crate uses: the laws in proofs/, bytes read as numbers, and bytes copied.
+#![tactic(auto)]
+
 ghost use Rattle.std.specs.Prelude.{◌≡◌, ◌+◌, ◌*◌, ◌<◌, ◌≤◌, length};
 ghost use Rattle.base.specs.Lists.{part, put};
 ghost use Rattle.base.specs.Bytes.{le};

@@ -2,6 +2,8 @@
 //
 // A file is run from a fresh store, at station 1,2 and from 2000-01-01 00:00:00 on; a second passes before each case. A case is a record of 272
 // bytes: level, a zero, the frame's length in two bytes, 263 bytes with the frame at their start, five zeros.
+#![tactic(auto)]
+
 use libc::STDOUT_FILENO;
 
 fn write_hex(bytes: &[u8], n: usize) {

@@ -1,4 +1,6 @@
 // CRC-16, worked four bits at a time from a table of 16.
+#![tactic(auto)]
+
 ghost use Rattle.std.specs.Prelude.{◌≡◌};
 ghost use Rattle.crc.specs.Crc.{turns4, turned, crc_byte, crc_of, crc_from};
 

@@ -106,6 +106,7 @@ among-table rs n (inl x) = inl x.1
 among-table rs n (inr x) = inr (go rs x.1)
   where
     go : (qs : List Refusal) → First qs n x.0 → Among (map (λ r. r.number) qs) n
+    go [] x3 = elim x3 [ ]
     go (q ∷ qs) (inl e) = inl (sym e.1)
     go (q ∷ qs) (inr e) = inr (go qs e.1)
 

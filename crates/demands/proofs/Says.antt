@@ -16,6 +16,7 @@ use Rattle.demands.specs.Table.{Refusal, unless, first_of, First, NoneApplies}
 module _ {n p : ℕ} where
   pub first_given : (rs : List Refusal) → First rs n p → first_of rs ≡ fault n p
   unfolding first_of
+  first_given [] x = elim x [ ]
   first_given (r ∷ rs) (inl e) = rw (e.0, e.1, e.2)
   first_given (r ∷ rs) (inr e) = rw e.0 (first_given rs e.1)
 
@@ -48,6 +49,7 @@ given_none (r ∷ rs) e = go r.holds refl e (given_none rs)
 
 -- what each number has, the number that is given has
 pub first_has : (P : ℕ → Type 0) (n p : ℕ) (rs : List Refusal) → All (λ r. P r.number) rs → First rs n p → P n
+first_has P n p [] a x = elim x [ ]
 first_has P n p (r ∷ rs) a (inl e) = rw e.1 at a.0
 first_has P n p (r ∷ rs) a (inr e) = first_has P n p rs a.1 e.1
 

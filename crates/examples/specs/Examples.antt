@@ -1,8 +1,7 @@
--- The examples that document 01 marks P: one list, one theorem over it.
+-- The examples that document 01 marks P: one list. proofs/Seen.antt has the theorem over it.
 -- Assumes nothing.
-use Rattle.std.specs.Prelude.{ℕ, zero, suc, ◌<◌, ◌≡◌, refl, true, false, List, [], ◌∷◌, map, length, get_or, drop}
-use Rattle.std.proofs.Common.{not-suc-le-zero, le_of_suc-le-suc, ap}
-use Rattle.examples.specs.Cases.{Seen, Case, asks, ticks, dates, seen, wanted, computed}
+use Rattle.std.specs.Prelude.{ℕ, true, false, List, [], ◌∷◌}
+use Rattle.examples.specs.Cases.{Seen, Case, asks, ticks, dates}
 
 -- an acknowledgment, after which the parameter holds v
 abbrev acted : ℕ → List ℕ → Seen
@@ -56,19 +55,6 @@ examples =
     ∷ asks 0 10 (0 ∷ 1 ∷ 1 ∷ []) 99 0 1 (refused 22 1 (0 ∷ 0 ∷ 0 ∷ []))
     ∷ []
 
-pub all_seen : map seen examples ≡ map wanted examples
-unfolding examples computed
-all_seen = refl
-
--- ---- each by itself: a place in the list names it
-
+-- what stands where the list has no place
 abbrev pub no_case : Case
 no_case = dates [] (shows [])
-
-at_row : {A : Type 0} (f g : Case → A) (cs : List Case) → map f cs ≡ map g cs → (i : ℕ) → i < length cs → f (get_or cs i no_case) ≡ g (get_or cs i no_case)
-at_row f g [] e i h = absurd (not-suc-le-zero h)
-at_row f g (c ∷ cs) e zero h = ap (λ (l : List _). get_or l 0 (f c)) e
-at_row f g (c ∷ cs) e (suc i) h = at_row f g cs (ap (drop 1) e) i (le_of_suc-le-suc h)
-
-pub each_seen : (i : ℕ) → i < length examples → seen (get_or examples i no_case) ≡ wanted (get_or examples i no_case)
-each_seen = at_row seen wanted examples all_seen

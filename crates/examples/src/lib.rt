@@ -1,1 +1,2 @@
-// Document 01's examples are theorems about the definitions: see specs/.
+// Document 01's examples are theorems about the definitions: see specs/ for the list and proofs/ for the theorems.
+#![tactic(auto)]

@@ -1,4 +1,6 @@
 // The fill: the default of each parameter, written into the store.
+#![tactic(auto)]
+
 ghost use Rattle.std.specs.Prelude.{◌≡◌, ◌+◌, ◌<◌, ◌≤◌, length, get_or};
 ghost use Rattle.base.specs.Lists.{put};
 ghost use Rattle.base.specs.Bytes.{bytes, padded};

@@ -1,4 +1,6 @@
 // The frame: addresses, who a request is for, the bytes of a reply.
+#![tactic(auto)]
+
 ghost use Rattle.std.specs.Prelude.{◌≡◌, ◌∷◌, [], ◌+◌, ◌≤◌, length, take};
 ghost use Rattle.base.specs.Lists.{part, put, over};
 ghost use Rattle.frame.specs.Address.{same_address, stationary, for_us};

@@ -1,4 +1,6 @@
 // The calls that the firmware's C code makes, as include/tyurkanim.h declares them. C passes a slice as a pointer and a length.
+#![tactic(auto)]
+
 ghost use Rattle.std.specs.Prelude.{◌≡◌};
 ghost use Rattle.points.specs.Types.{gateway};
 ghost use Rattle.frame.specs.Address.{address};
@@ -21,8 +23,8 @@ pub extern "C" fn tyurkanim_request(
     reply: &mut [u8],
     length: &mut u16,
 ) -> u8
-    ensures { record { outcome = result; count = length.new; store = store.exit.now; clock = clock.new; reply = reply.new }
-        ≡ answer gateway (record { frame = frame.entry.now; us = address unit group; level = level }) (record { store = store.entry.now; clock = clock.old }) reply.old }
+    ensures { record { outcome = result; count = length.new; store = store.new; clock = clock.new; reply = reply.new }
+        ≡ answer gateway (record { frame = frame.now; us = address unit group; level = level }) (record { store = store.old; clock = clock.old }) reply.old }
 {
     let us = Address {
         unit: unit,

@@ -8,7 +8,7 @@ use mathlib.Core.List.{List}
 use borrow.Author.Tests.{leb-true}
 use lib.ListN.{length, drop, length-drop}
 use lib.Seq.{drop-drop}
-use Rattle.base.specs.Check.{Check, fault, pass, ◌>>=◌}
+use Rattle.base.specs.Check.{Check, fault, pass}
 use Rattle.base.proofs.Checks.{passing, first_passes}
 use Rattle.points.specs.Types.{Point, gateway}
 use Rattle.rules.specs.Entries as rules

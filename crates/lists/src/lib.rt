@@ -1,4 +1,6 @@
 // The lists of parameters that requests have: one way to find the next entry, one to check it for reading, one for writing.
+#![tactic(auto)]
+
 ghost use Rattle.std.specs.Prelude.{◌≡◌, ◌<◌, drop};
 ghost use Rattle.points.specs.Types.{gateway};
 ghost use Rattle.points.specs.Columns.{row_at};

@@ -9,7 +9,7 @@ use borrow.Author.Tests.{le-leb, lt-leb, eq-eqb, ne_eqb, lt-ltb, le-ltb, leb-tru
 use lib.Dec.{leb, ltb, eqb}
 use lib.ListN.{length, get_or, take}
 use lib.Seq.{length-take-le}
-use Rattle.base.specs.Check.{Check, fault, pass, ◌>>=◌, test}
+use Rattle.base.specs.Check.{Check, fault, pass, test}
 use Rattle.base.specs.Lists.{part, put, both}
 use Rattle.base.proofs.Below.{at-below, both_left}
 use Rattle.base.proofs.Checks.{passed, failed, on_pass, on_fault, first_passes}
@@ -46,6 +46,7 @@ tall = refl
 
 three : (k : ℕ) → 1 ≤ k → k < 45 → len_at tables k ≡ 3
 unfolding len_at point points
+three zero h l = elim h [ ]
 three (suc k) h l = eqb-true _ _ (at-below 44 (λ j. eqb (len_at tables (suc j)) 3) refl k (omega arith))
 
 threes : (k n : ℕ) → 1 ≤ k → k + n ≤ 45 → span_of tables k n ≡ 3 * n

@@ -9,7 +9,7 @@ use lib.ListN.{length, take, drop, set, length-append, length-drop}
 use lib.Seq.{take-length, length-take-le}
 use borrow.Author.Tests.{lt-ltb, le-ltb, le-leb, lt-leb, eq-eqb, ne_eqb}
 use Rattle.base.specs.Check.{Check, fault, pass, ◌>>=◌, test}
-use Rattle.base.specs.Lists.{part, put, over}
+use Rattle.base.specs.Lists.{part, put}
 use Rattle.base.proofs.Checks.{passed, failed}
 use Rattle.base.proofs.Parts.{length-put, put_join}
 use Rattle.base.proofs.Written.{stored, put_first, over-whole}

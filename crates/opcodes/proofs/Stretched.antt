@@ -11,7 +11,7 @@ use lib.ListN.{length, get_or, take, drop, length-drop}
 use lib.Seq.{length-take-le}
 use mir.Syntax.{w64}
 use mir.Val.{Fits}
-use Rattle.base.specs.Check.{Check, fault, pass, ◌>>=◌}
+use Rattle.base.specs.Check.{Check, fault, pass}
 use Rattle.base.specs.Lists.{part, put}
 use Rattle.base.proofs.Checks.{passed, failed, on_pass, first_passes}
 use Rattle.base.proofs.Parts.{put_join, length_part}

@@ -1,4 +1,6 @@
 // The eight opcodes: each checks its request's data and then does what it asks.
+#![tactic(auto)]
+
 pub mod blocks;
 pub mod clocks;
 pub mod named;

@@ -4,7 +4,6 @@ use Rattle.std.specs.Prelude.{ℕ, ◌+◌, ◌-◌, ◌^◌, ◌<◌, ◌≡◌
 use Rattle.base.specs.Lists.{joined}
 use Rattle.points.specs.Row.{Row, Kind, text, unsigned, signed, single, double, tlp, Access, read_write, read_only, read_only_first, Range, any, between, status, rate, size, number, Default, figure, words, soft_point, segment, full_first, no_row}
 use Rattle.points.specs.Types.{Point, points, height}
-use Rattle.points.specs.Place.{lens}
 
 abbrev pub rows_of : Point → List Row
 rows_of p = p.rows

@@ -1,4 +1,6 @@
 // The point types: a row for each parameter, and where each lies in the store.
+#![tactic(auto)]
+
 mod columns;
 
 ghost use Rattle.std.specs.Prelude.{◌≡◌, ◌+◌, ◌<◌, ◌≤◌, length, get_or};

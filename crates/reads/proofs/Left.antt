@@ -8,7 +8,7 @@ use mathlib.Core.List.{List, [], ◌∷◌}
 use borrow.Author.Tests.{le-leb, lt-leb, eq-eqb, ne_eqb}
 use lib.ListN.{length, get_or, take, drop, length-drop, length-take}
 use lib.Seq.{drop-drop, length-take-le}
-use Rattle.base.specs.Check.{Check, ◌>>=◌}
+use Rattle.base.specs.Check.{Check}
 use Rattle.base.specs.Lists.{sum}
 use Rattle.base.proofs.Checks.{passed, failed, on_pass, on_fault}
 use Rattle.points.specs.Types.{gateway, points, point}

@@ -8,7 +8,7 @@ use mathlib.Core.List.{List, ◌++◌}
 use borrow.Author.Tests.{leb-true}
 use lib.ListN.{length, take, drop, length-drop, length-append}
 use lib.Seq.{length-take-le}
-use Rattle.base.specs.Check.{pass, ◌>>=◌}
+use Rattle.base.specs.Check.{pass}
 use Rattle.base.specs.Lists.{part, put}
 use Rattle.base.proofs.Checks.{first_passes}
 use Rattle.base.proofs.Parts.{put_join, length_part}
@@ -39,7 +39,7 @@ unfolding reading ends fitting
 never_over who src zero d at ps h = let x = first_passes _ h in leb-true _ _ (first_passes _ x.1.1).0
 never_over who src (suc n) d at ps h =
     let x = first_passes _ h in
-    let y = never_over who _ n _ _ _ x.1.1 in
+    let y = never_over who (rules.after src) n _ _ _ x.1.1 in
     omega arith
 
 pub record Telling (who : rules.Caller) (src : Source) (d bs s r₀ r : List ℕ) (e at to : ℕ) : Type 0 where

@@ -1,4 +1,6 @@
 // A list that is read: every entry checked, then every value told.
+#![tactic(auto)]
+
 ghost use Rattle.std.specs.Prelude.{◌≡◌};
 ghost use Rattle.base.specs.Lists.{put};
 ghost use Rattle.points.specs.Types.{gateway};

@@ -6,7 +6,7 @@ use Rattle.clock.specs.Moments.{valid_clock, clock_of}
 use Rattle.points.specs.Types.{gateway}
 use Rattle.frame.specs.Address.{stationary}
 use Rattle.frame.specs.declared.Address.{Address}
-use Rattle.rules.specs.Asked.{Asked, Held}
+use Rattle.rules.specs.Asked.{Asked}
 use Rattle.rules.specs.Received.{received}
 
 -- our own address, the level, the clock k: outcome 3 where one of them is wrong

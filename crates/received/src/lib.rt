@@ -1,4 +1,6 @@
 // What refuses a request before its opcode is looked at: outcomes 1 to 8.
+#![tactic(auto)]
+
 ghost use Rattle.std.specs.Prelude.{◌≡◌, length};
 ghost use Rattle.received.specs.Refused.{ready_by, Refusal};
 

@@ -8,9 +8,8 @@ use mathlib.Core.List.{List}
 use lib.ListN.{length, get_or, take, drop}
 use Rattle.base.specs.Check.{Check, fault, pass}
 use Rattle.base.specs.Lists.{part, put, over}
-use Rattle.base.proofs.Checks.{Holds, faulty, passing}
+use Rattle.base.proofs.Checks.{Holds, passing}
 use Rattle.points.specs.Types.{gateway}
-use Rattle.points.specs.Place.{store_size}
 use Rattle.store.specs.Store.{stored}
 use Rattle.frame.specs.Address.{source}
 use Rattle.frame.specs.Frame.{opcode, data_of, frame_of}
@@ -18,7 +17,7 @@ use Rattle.frame.proofs.Written.{length_frame, answered}
 use Rattle.rules.specs.Asked.{Asked, Held}
 use Rattle.rules.specs.Deeds.{Deeds, told, sizes}
 use Rattle.rules.specs.Opcodes.{opcode_of, plan}
-use Rattle.rules.specs.Answer.{Answer, to_all, sent, carried, planned}
+use Rattle.rules.specs.Answer.{to_all, sent, carried, planned}
 use Rattle.rules.proofs.Lawful.{Lawful, lawful}
 use Rattle.rules.proofs.Told.{told-length}
 use Rattle.opcodes.specs.Done.{done_of, space_by, store_by, clock_by}

@@ -1,4 +1,6 @@
 // The request, whole: refused, or its opcode carried out and its reply or an error framed.
+#![tactic(auto)]
+
 ghost use Rattle.std.specs.Prelude.{◌≡◌, ◌∷◌, [], ◌≤◌, length};
 ghost use Rattle.base.specs.Lists.{over};
 ghost use Rattle.points.specs.Types.{gateway};
@@ -29,8 +31,8 @@ fn act(
     reply: &mut [u8],
 ) -> Done
     requires { Acting d.now store.old clock.old reply.old }
-    ensures { Acted aloud store.entry.now store.exit.now clock.old clock.new reply.old reply.new result
-        (plan gateway (opcode_of op) level (record { store = store.entry.now; clock = clock.old }) d.now) }
+    ensures { Acted aloud store.old store.new clock.old clock.new reply.old reply.new result
+        (plan gateway (opcode_of op) level (record { store = store.old; clock = clock.old }) d.now) }
 {
     match op {
         7 => opcodes::clocks::read(d, &clock[..], aloud, reply),
@@ -98,8 +100,8 @@ fn perform(
     reply: &mut [u8],
 ) -> Ended
     requires { Performing f.now store.old clock.old reply.old }
-    ensures { ended_as result store.exit.now clock.new reply.new
-        ≡ performed (record { frame = f.now; us = us; level = level }) (record { store = store.entry.now; clock = clock.old }) reply.old }
+    ensures { ended_as result store.new clock.new reply.new
+        ≡ performed (record { frame = f.now; us = us; level = level }) (record { store = store.old; clock = clock.old }) reply.old }
 {
     let to = Address {
         unit: f[2],
@@ -120,8 +122,8 @@ pub fn request(
     clock: &mut [u8; 7],
     reply: &mut [u8],
 ) -> Ended
-    ensures { ended_as result store.exit.now clock.new reply.new
-        ≡ answer gateway (record { frame = f.now; us = us; level = level }) (record { store = store.entry.now; clock = clock.old }) reply.old }
+    ensures { ended_as result store.new clock.new reply.new
+        ≡ answer gateway (record { frame = f.now; us = us; level = level }) (record { store = store.old; clock = clock.old }) reply.old }
 {
     let n = received::refused(us, level, f, &clock[..], store.len(), reply.len());
     if n == 0 {

@@ -15,7 +15,6 @@ use Rattle.points.specs.Types.{Build, point, row}
 use Rattle.points.specs.Place.{len_at}
 use Rattle.store.specs.Store.{Write, stored}
 use Rattle.store.proofs.Laws.{Sound}
-use Rattle.values.specs.Judged.{judged}
 use Rattle.rules.specs.Deeds.{Piece, sizes}
 use Rattle.rules.specs.Entries.{Caller, request, reaches, may_write, Named, Source, after}
 use Rattle.rules.specs.Lists.{read_level, write_level, reading, entry, accepts, writing}

@@ -1,1 +1,2 @@
 // The rules of a request are definitions alone: see specs/.
+#![tactic(auto)]

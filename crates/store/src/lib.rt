@@ -1,1 +1,2 @@
 // The store: what a parameter holds, a value stored, the fill.
+#![tactic(auto)]

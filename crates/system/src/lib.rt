@@ -1,4 +1,6 @@
 // System write: one value stored by the system, which may write what is read-only.
+#![tactic(auto)]
+
 ghost use Rattle.std.specs.Prelude.{◌≡◌};
 ghost use Rattle.points.specs.Types.{gateway};
 ghost use Rattle.rules.specs.System.{system_write};

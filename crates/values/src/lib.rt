@@ -1,4 +1,6 @@
 // What a value may be, and what it says as a number.
+#![tactic(auto)]
+
 mod pairs;
 pub mod readings;
 mod tlps;

@@ -12,7 +12,7 @@ use lib.Seq.{drop-drop, length-take-le}
 use Rattle.base.specs.Check.{Check, fault, pass, ◌>>=◌}
 use Rattle.base.specs.Lists.{All, part}
 use Rattle.base.proofs.Checks.{passed, failed, on_pass, on_fault, first_passes}
-use Rattle.points.specs.Types.{gateway, segments, logicals, row}
+use Rattle.points.specs.Types.{gateway, segments, logicals}
 use Rattle.points.specs.Place.{first, offset, len_at, store_size}
 use Rattle.points.specs.Columns.{row_at, row_kind}
 use Rattle.points.proofs.Rows.{row_below, row-length, six}

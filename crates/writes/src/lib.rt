@@ -1,4 +1,6 @@
 // A list that is written: every entry checked, then every value stored.
+#![tactic(auto)]
+
 ghost use Rattle.std.specs.Prelude.{◌≡◌, [], drop};
 ghost use Rattle.points.specs.Types.{gateway};
 ghost use Rattle.store.specs.Store.{stored};
