@@ -1,4 +1,4 @@
-//! Finds the archive: the one that `rt staticlib gateway` writes, or the one
+//! Finds the archive: the one that `tools/build-archive` writes, or the one
 //! that TYURKANIM_ARCHIVE names. Links it if it is for this machine; if not,
 //! makes a program of it that an emulator runs.
 
@@ -36,7 +36,7 @@ fn reach(archive: &Path) -> Result<(), Box<dyn Error>> {
     println!("cargo::rerun-if-changed={}", archive.display());
     let bytes = fs::read(archive).map_err(|error| {
         let path = archive.display();
-        format!("{path}: {error}; `rt staticlib gateway` writes the archive")
+        format!("{path}: {error}; `bash tools/build-archive` writes the archive")
     })?;
     let machine = machine(&bytes).ok_or("the archive holds no object for a known machine")?;
     if machine == env::var("CARGO_CFG_TARGET_ARCH")? {

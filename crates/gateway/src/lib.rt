@@ -1,4 +1,4 @@
-// The calls that the firmware's C code makes, as include/tyurkanim.h declares them. C passes a slice as a pointer and a length.
+// The calls that the firmware makes. The crate gateway_c exports each of them to C, under the same name.
 #![tactic(auto)]
 
 ghost use Rattle.std.specs.Prelude.{◌≡◌};
@@ -12,8 +12,7 @@ use clock::Clock;
 use frame::Address;
 use points::{Logical, Parameter, PointType};
 
-#[unsafe(no_mangle)]
-pub extern "C" fn tyurkanim_request(
+pub fn tyurkanim_request(
     frame: &[u8],
     store: &mut [u8],
     clock: &mut [u8; 7],
@@ -35,8 +34,7 @@ pub extern "C" fn tyurkanim_request(
     ended.outcome
 }
 
-#[unsafe(no_mangle)]
-pub extern "C" fn tyurkanim_system_write(
+pub fn tyurkanim_system_write(
     store: &mut [u8],
     t: u8,
     logical: u8,
@@ -54,15 +52,13 @@ pub extern "C" fn tyurkanim_system_write(
     )
 }
 
-#[unsafe(no_mangle)]
-pub extern "C" fn tyurkanim_fill(store: &mut [u8]) -> u8
+pub fn tyurkanim_fill(store: &mut [u8]) -> u8
     ensures { record { outcome = result; store = store.new } ≡ fill gateway store.old }
 {
     fill::fill(store)
 }
 
-#[unsafe(no_mangle)]
-pub extern "C" fn tyurkanim_tick(clock: &mut [u8; 7]) -> u8
+pub fn tyurkanim_tick(clock: &mut [u8; 7]) -> u8
     ensures { record { outcome = result; clock = clock.new } ≡ ticking clock.old }
 {
     let ticked = Clock::of_bytes(&clock[..]).next();
@@ -73,8 +69,7 @@ pub extern "C" fn tyurkanim_tick(clock: &mut [u8; 7]) -> u8
     ticked.outcome
 }
 
-#[unsafe(no_mangle)]
-pub extern "C" fn tyurkanim_number_read(
+pub fn tyurkanim_number_read(
     store: &[u8],
     t: u8,
     logical: u8,
