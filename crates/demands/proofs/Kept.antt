@@ -55,7 +55,7 @@ module _ (b : Build) (a : Asked) (h : Held) (r : List ℕ) (i l k : ℕ) (hl : l
       go (acted {d} q e o) =
           stored_elsewhere b h.store q.whole d.puts i l k hl o.puts.sound (all_map d.puts ne o.puts.allowed)
 
-  -- nothing that is read_only, the size of logical 0 of type 124 among it
+  -- nothing that is read-only, the size of logical 0 of type 124 among it
   pub read_only : locked_at (row i k).access l ≡ true → value b (answer b a h r).store i l k ≡ value b h.store i l k
   read_only e =
       barred λ w o n.
