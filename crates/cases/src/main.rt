@@ -4,30 +4,38 @@
 // bytes: level, a zero, the frame's length in two bytes, 263 bytes with the frame at their start, five zeros.
 #![tactic(auto)]
 
-use libc::STDOUT_FILENO;
+use std::rt::Files;
+use std::{fs, io};
 
-fn write_hex(bytes: &[u8], n: usize) {
-    let mut i: usize = 0;
-    while i < n && i < bytes.len() {
-        io::print_hex(STDOUT_FILENO, base::wide(bytes[i]) as u64, 2);
-        i += 1;
+const RECORD: usize = 272;
+
+const LONGEST_FRAME: usize = 263;
+
+fn write_hex(rt: &impl Print, bytes: &[u8], count: usize) -> io::Result<()> {
+    for byte in bytes.iter().take(count) {
+        print!(rt; "{byte:02x}")?;
     }
+    Ok(())
 }
 
-fn tell(outcome: u8, length: u16, reply: &[u8]) {
-    io::print_decimal(STDOUT_FILENO, outcome as u64);
-    io::write_all(STDOUT_FILENO, b" ");
-    io::print_decimal(STDOUT_FILENO, length as u64);
+fn tell(rt: &impl Print, outcome: u8, length: u16, reply: &[u8]) -> io::Result<()> {
+    print!(rt; "{outcome} {length}")?;
     if length > 0 {
-        io::write_all(STDOUT_FILENO, b" ");
+        print!(rt; " ")?;
     }
-    write_hex(reply, length as usize);
-    io::write_all(STDOUT_FILENO, b"\n");
+    write_hex(rt, reply, usize::from(length))?;
+    println!(rt)
 }
 
-fn run_case(level: u8, frame: &[u8], store: &mut [u8], clock: &mut [u8; 7]) {
+fn run_case(
+    rt: &impl Print,
+    level: u8,
+    frame: &[u8],
+    store: &mut [u8],
+    clock: &mut [u8; 7],
+) -> io::Result<()> {
     gateway::tyurkanim_tick(clock);
-    let mut reply = [0u8; 263];
+    let mut reply = [0u8; LONGEST_FRAME];
     let mut length: u16 = 0;
     let outcome = gateway::tyurkanim_request(
         frame,
@@ -39,55 +47,60 @@ fn run_case(level: u8, frame: &[u8], store: &mut [u8], clock: &mut [u8; 7]) {
         &mut reply,
         &mut length,
     );
-    tell(outcome, length, &reply);
+    tell(rt, outcome, length, &reply)
 }
 
-// Answers whether to go on: not behind the last whole record.
-fn run_next(fd: i32, store: &mut [u8], clock: &mut [u8; 7]) -> bool {
-    let mut record = [0u8; 272];
-    let got = io::read_full(fd, &mut record);
-    if got < 272 {
-        return false;
+// Answers whether to go on: a record whose length is more than it has room for ends its file.
+fn run_next(
+    rt: &impl Print,
+    case: &[u8; RECORD],
+    store: &mut [u8],
+    clock: &mut [u8; 7],
+) -> io::Result<bool> {
+    let length = usize::from(u16::from_le_bytes([case[2], case[3]]));
+    if length > LONGEST_FRAME {
+        return Ok(false);
     }
-    let n = base::word(record[2], record[3]) as usize;
-    if n > 263 {
-        return false;
-    }
-    let level = record[0];
-    let end = n + 4;
-    run_case(level, &record[4..end], store, clock);
-    true
+    run_case(rt, case[0], &case[4..4 + length], store, clock)?;
+    Ok(true)
 }
 
-// A proved loop has to end, and nothing says that a file does: so the turns are counted down, from a number that no file uses up.
-fn run_all(fd: i32, store: &mut [u8], clock: &mut [u8; 7]) {
-    let mut turns = u64::MAX;
-    while turns > 0 && run_next(fd, store, clock) {
-        turns -= 1;
+// What stands behind the last whole record is left out.
+fn run_all(rt: &impl Print, cases: &[u8], store: &mut [u8], clock: &mut [u8; 7]) -> io::Result<()> {
+    let (whole, _) = cases.as_chunks::<RECORD>();
+    for case in whole {
+        if !run_next(rt, case, store, clock)? {
+            break;
+        }
     }
+    Ok(())
 }
 
-fn run(name: &[u8]) {
-    io::write_all(STDOUT_FILENO, name);
-    io::write_all(STDOUT_FILENO, b"\n");
-    let fd = os::open_read(name);
-    if fd < 0 {
-        os::fail(name);
-        return;
-    }
+// A file that cannot be read is told of on the standard error, and none of its cases is run.
+fn run(rt: &(impl Files + Alloc + Print + Eprint), name: &str) -> io::Result<()> {
+    println!(rt; "{name}")?;
+    let cases = match fs::read(rt, name) {
+        Ok(cases) => cases,
+        Err(error) => return eprintln!(rt; "{name}: {error}"),
+    };
     let mut store = [0u8; 12427];
     gateway::tyurkanim_fill(&mut store);
     let mut clock = [0, 0, 0, 1, 1, 208, 7];
-    run_all(fd, &mut store, &mut clock);
-    libc::close(fd);
+    run_all(rt, cases.as_slice(), &mut store, &mut clock)
 }
 
 // Document 01: "167, type 98, start 0: count 56 gives 254 data bytes, 57 would give 258 (28). 180 of 63 bytes gives 253; of 64 would give 257
 // (28)." Then frames from the Rust program.
-fn main() {
-    run(b"167-count-56");
-    run(b"167-count-57");
-    run(b"180-count-63");
-    run(b"180-count-64");
-    run(b"frames");
+fn main(rt: HostRuntime) -> io::Result<()> {
+    let names = [
+        "167-count-56",
+        "167-count-57",
+        "180-count-63",
+        "180-count-64",
+        "frames",
+    ];
+    for name in names {
+        run(&rt, name)?;
+    }
+    Ok(())
 }
