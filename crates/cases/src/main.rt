@@ -4,8 +4,9 @@
 // bytes: level, a zero, the frame's length in two bytes, 263 bytes with the frame at their start, five zeros.
 #![tactic(auto)]
 
+use std::fs::File;
+use std::io::{self, Read};
 use std::rt::Files;
-use std::{fs, io};
 
 const RECORD: usize = 272;
 
@@ -50,13 +51,17 @@ fn run_case(
     tell(rt, outcome, length, &reply)
 }
 
-// Answers whether to go on: a record whose length is more than it has room for ends its file.
+// Answers whether to go on: not behind the last whole record, nor behind one whose length is more than it has room for.
 fn run_next(
     rt: &impl Print,
-    case: &[u8; RECORD],
+    cases: &mut impl Read,
     store: &mut [u8],
     clock: &mut [u8; 7],
 ) -> io::Result<bool> {
+    let mut case = [0u8; RECORD];
+    if cases.read_exact(&mut case).is_err() {
+        return Ok(false);
+    }
     let length = usize::from(u16::from_le_bytes([case[2], case[3]]));
     if length > LONGEST_FRAME {
         return Ok(false);
@@ -65,28 +70,32 @@ fn run_next(
     Ok(true)
 }
 
-// What stands behind the last whole record is left out.
-fn run_all(rt: &impl Print, cases: &[u8], store: &mut [u8], clock: &mut [u8; 7]) -> io::Result<()> {
-    let (whole, _) = cases.as_chunks::<RECORD>();
-    for case in whole {
-        if !run_next(rt, case, store, clock)? {
+// A proved loop has to end, and nothing says that a file does: so the turns are counted, up to a number that no file uses up.
+fn run_all(
+    rt: &impl Print,
+    cases: &mut impl Read,
+    store: &mut [u8],
+    clock: &mut [u8; 7],
+) -> io::Result<()> {
+    for _ in 0..u64::MAX {
+        if !run_next(rt, cases, store, clock)? {
             break;
         }
     }
     Ok(())
 }
 
-// A file that cannot be read is told of on the standard error, and none of its cases is run.
-fn run(rt: &(impl Files + Alloc + Print + Eprint), name: &str) -> io::Result<()> {
+// A file that cannot be opened is told of on the standard error, and none of its cases is run.
+fn run(rt: &(impl Files + Print + Eprint), name: &str) -> io::Result<()> {
     println!(rt; "{name}")?;
-    let cases = match fs::read(rt, name) {
+    let mut cases = match File::open(rt, name) {
         Ok(cases) => cases,
         Err(error) => return eprintln!(rt; "{name}: {error}"),
     };
     let mut store = [0u8; 12427];
     gateway::tyurkanim_fill(&mut store);
     let mut clock = [0, 0, 0, 1, 1, 208, 7];
-    run_all(rt, cases.as_slice(), &mut store, &mut clock)
+    run_all(rt, &mut cases, &mut store, &mut clock)
 }
 
 // Document 01: "167, type 98, start 0: count 56 gives 254 data bytes, 57 would give 258 (28). 180 of 63 bytes gives 253; of 64 would give 257

@@ -59,6 +59,7 @@ impl Address {
 }
 
 // Outcome 4, 5 or 6, or 0 where the frame is whole.
+#[tactic(auto, using(crate::proofs::Cases::framing_cases))]
 pub fn framed(f: &[u8]) -> u8
     ensures { result ≡ framing f.now }
 {

@@ -58,6 +58,7 @@ pub fn tyurkanim_fill(store: &mut [u8]) -> u8
     fill::fill(store)
 }
 
+#[tactic(auto, using(crate::proofs::Ticks::ticks_on, crate::proofs::Ticks::ticks_not))]
 pub fn tyurkanim_tick(clock: &mut [u8; 7]) -> u8
     ensures { record { outcome = result; clock = clock.new } ≡ ticking clock.old }
 {

@@ -82,7 +82,8 @@ pub fn read(level: u8, d: &[u8], store: &[u8], aloud: bool, reply: &mut [u8]) ->
                 return Done::Fault(21, 4);
             }
             let size = stretch.size;
-            if 251 < size {
+            let too_long = 251 < size;
+            if too_long {
                 return Done::Fault(28, 0);
             }
             if aloud {

@@ -17,6 +17,7 @@ pub enum Table {
 }
 
 // Sixteen tables with locations 1 to 44 each.
+#[tactic(auto, using(crate::proofs::Located::locate_cases))]
 fn locate(d: &[u8]) -> Table
     requires { length d.now ≤ 255 }
     ensures { result ≡ table_of d.now (locates gateway d.now) }

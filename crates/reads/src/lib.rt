@@ -69,7 +69,8 @@ pub fn check(src: Source, who: Caller, d: &[u8], locations: &[u8]) -> Checked
     if at < d.len() {
         return Checked::Fault(21, at as u8);
     }
-    if 255 < size {
+    let too_long = 255 < size;
+    if too_long {
         return Checked::Fault(28, 0);
     }
     Checked::Pass(size)

@@ -126,7 +126,8 @@ pub fn request(
         ≡ answer gateway (record { frame = f.now; us = us; level = level }) (record { store = store.old; clock = clock.old }) reply.old }
 {
     let n = received::refused(us, level, f, &clock[..], store.len(), reply.len());
-    if n == 0 {
+    let received = n == 0;
+    if received {
         return perform(us, level, f, store, &mut clock[..], reply);
     }
     Ended {

@@ -25,3 +25,6 @@ pub zero_by_zero : (f : Format) → div f (of_bits f 0) (of_bits f 0) ≡ nan
 unfolding div of_bits
 zero_by_zero binary32 = refl
 zero_by_zero binary64 = refl
+
+-- what `single` and `double` are proved by
+pub ruleset nans = (is_nan_lem, no_nan, zero_by_zero)

@@ -70,6 +70,7 @@ pub fn signed(b: u8) -> i8
 }
 
 // From -1 to 5, so that 255 is in and 128 is not.
+#[tactic(auto, unfolding(crate::specs::Judged::status_ok))]
 pub fn status_ok(b: u8) -> bool
     ensures { result ≡ status_ok b }
 {
@@ -94,6 +95,7 @@ pub fn finite64(n: u64) -> bool
 }
 
 // The float of a pattern. `from_bits` takes no NaN's pattern: those lie above infinity's, signs aside, and are all the one value 0.0 / 0.0.
+#[tactic(auto, using(crate::proofs::Nans::nans))]
 pub fn single(n: u32) -> f32
     ensures { result ≡ of_bits binary32 n }
 {
@@ -104,6 +106,7 @@ pub fn single(n: u32) -> f32
     }
 }
 
+#[tactic(auto, using(crate::proofs::Nans::nans))]
 pub fn double(n: u64) -> f64
     ensures { result ≡ of_bits binary64 n }
 {

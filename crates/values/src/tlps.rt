@@ -31,6 +31,7 @@ pub fn tlp_ok(t: u8, l: u8, k: u8) -> bool
 }
 
 // Text and TLP are no numbers: the codes of the kinds that are lie from 1 to 4.
+#[tactic(auto, using(crate::proofs::Named::number_tlp_cases))]
 pub fn number_tlp_ok(t: u8, l: u8, k: u8) -> bool
     ensures { result ≡ number_tlp gateway (t ∷ l ∷ k ∷ []) }
 {

@@ -64,8 +64,8 @@ overflow_cast-result c = omega (arith, c.requires.short)
 pub returns-then-at-d : goal.returns-then-at-d
 returns-then-at-d c = spare _ _ _ _ _ _ _ c.loop-e.invariant.6 (omega arith) c.if-at-d.true
 
-pub returns-then-size-gt255 : goal.returns-then-size-gt255
-returns-then-size-gt255 c = too_long _ _ _ _ _ _ _ c.loop-e.invariant.6 (omega arith) c.if-at-d.false c.if-size-gt255.true
+pub returns-then-too_long : goal.returns-then-too_long
+returns-then-too_long c = too_long _ _ _ _ _ _ _ c.loop-e.invariant.6 (omega arith) c.if-at-d.false c.if-too_long.true
 
 pub returns : goal.returns
-returns c = done _ _ _ _ _ _ _ c.loop-e.invariant.6 (omega arith) c.if-at-d.false c.if-size-gt255.false
+returns c = done _ _ _ _ _ _ _ c.loop-e.invariant.6 (omega arith) c.if-at-d.false c.if-too_long.false

@@ -19,8 +19,8 @@ returns-then-level-read_level_at c = λ k. told_fault _ _ _ _ (low_167 _ _ c.spa
 pub returns-then-d-gt4 : goal.returns-then-d-gt4
 returns-then-d-gt4 c = λ k. told_fault _ _ _ _ (spare_167 _ _ c.span-block.ensures _ _ _ _ c.in-Of.is _ c.stretch_of-stretch.ensures _ _ k _ c.read_level_at.ensures c.if-level-read_level_at.false c.if-d-gt4.true)
 
-pub returns-then-size-gt251 : goal.returns-then-size-gt251
-returns-then-size-gt251 c = λ k. told_fault _ _ _ _ (long_167 _ _ c.span-block.ensures _ _ _ _ c.in-Of.is _ c.stretch_of-stretch.ensures _ _ k _ c.read_level_at.ensures c.if-level-read_level_at.false c.if-d-gt4.false c.if-size-gt251.true)
+pub returns-then-too_long : goal.returns-then-too_long
+returns-then-too_long c = λ k. told_fault _ _ _ _ (long_167 _ _ c.span-block.ensures _ _ _ _ c.in-Of.is _ c.stretch_of-stretch.ensures _ _ k _ c.read_level_at.ensures c.if-level-read_level_at.false c.if-d-gt4.false c.if-too_long.true)
 
 pub copy-requires : goal.copy-requires
 copy-requires c = (omega (arith, c.requires.room), four_bytes _ _ c.span-block.ensures _ _ _ _ c.in-Of.is _ c.stretch_of-stretch.ensures)
@@ -31,11 +31,11 @@ copy-requires-then-aloud c = (omega (arith, c.requires.room, c.copy.auto.dst), s
 pub returns-then-aloud : goal.returns-then-aloud
 returns-then-aloud c =
     λ k. aloud_167 _ _ c.span-block.ensures _ _ _ _ c.in-Of.is _ c.stretch_of-stretch.ensures _ _ k _ c.read_level_at.ensures c.if-level-read_level_at.false c.if-d-gt4.false _ _ _ _
-    c.requires.whole_store c.requires.room c.if-size-gt251.false c.if-aloud.true c.copy.ensures c.copy-then-aloud.ensures
+    c.requires.whole_store c.requires.room c.if-too_long.false c.if-aloud.true c.copy.ensures c.copy-then-aloud.ensures
 
 pub returns-in-Fault : goal.returns-in-Fault
 unfolding plan167
 returns-in-Fault c = λ k. told_fault _ _ _ _ (on_fault _ (no_span _ _ c.span-block.ensures c.in-Fault.is))
 
 pub returns-else-aloud : goal.returns-else-aloud
-returns-else-aloud c = λ k. silent_167 _ _ c.span-block.ensures _ _ _ _ c.in-Of.is _ c.stretch_of-stretch.ensures _ _ k _ c.read_level_at.ensures c.if-level-read_level_at.false c.if-d-gt4.false _ _ c.if-size-gt251.false c.if-aloud.false
+returns-else-aloud c = λ k. silent_167 _ _ c.span-block.ensures _ _ _ _ c.in-Of.is _ c.stretch_of-stretch.ensures _ _ k _ c.read_level_at.ensures c.if-level-read_level_at.false c.if-d-gt4.false _ _ c.if-too_long.false c.if-aloud.false
