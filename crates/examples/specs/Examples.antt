@@ -1,4 +1,4 @@
--- The examples that document 01 marks P: one list. proofs/Seen.antt has the theorem over it.
+-- The examples of docs/RULES.md, "Examples on both sides": one list. proofs/Seen.antt has the theorem over it.
 -- Assumes nothing.
 use Rattle.std.specs.Prelude.{ℕ, true, false, List, [], ◌∷◌}
 use Rattle.examples.specs.Cases.{Seen, Case, asks, ticks, dates}

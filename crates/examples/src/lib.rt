@@ -1,2 +1,2 @@
-// Document 01's examples are theorems about the definitions: see specs/ for the list and proofs/ for the theorems.
+// The examples of docs/RULES.md are theorems about the definitions: see specs/ for the list and proofs/ for the theorems.
 #![tactic(auto)]

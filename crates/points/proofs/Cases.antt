@@ -1,4 +1,4 @@
--- The cases of `place_of` for document 01's build, under the plain facts that the code's tests leave.
+-- The cases of `place_of` for the build `gateway`, under the plain facts that the code's tests leave.
 -- Assumes nothing.
 use mathlib.Core.Path.{◌≡◌, refl, sym}
 use mathlib.Core.Bool.{true}
