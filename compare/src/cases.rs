@@ -27,7 +27,7 @@ pub struct File {
     requests: Vec<Request>,
 }
 
-/// The files in the order of the run: document 01's examples that are not among
+/// The files in the order of the run: the rules' examples that are not among
 /// the proved ones, then frames at random.
 #[must_use]
 pub fn files() -> Vec<File> {

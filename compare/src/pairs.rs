@@ -1,6 +1,6 @@
-//! Which call can come to which outcome, from document 01.
+//! Which call can come to which outcome, from the rules.
 
-/// Every outcome of document 01.
+/// Every outcome of the rules.
 pub const OUTCOMES: [u8; 21] = [
     0, 1, 2, 3, 4, 5, 6, 7, 8, 20, 21, 22, 23, 24, 25, 26, 27, 28, 29, 30, 31,
 ];

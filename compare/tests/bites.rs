@@ -1,4 +1,4 @@
-//! The comparison itself: it catches the four servers that document 01 wants
+//! The comparison itself: it catches the four servers that the rules want
 //! rejected, and others that are wrong in one way, and tells it in few steps.
 
 use compare::difference::Difference;

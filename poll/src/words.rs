@@ -1,6 +1,6 @@
 //! Numbers in words.
 
-/// An outcome of document 01 that an error frame can carry.
+/// An outcome of the rules that an error frame can carry.
 #[must_use]
 pub const fn outcome(number: u8) -> &'static str {
     match number {

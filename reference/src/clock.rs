@@ -1,5 +1,5 @@
-//! The clock: a date and a time of day, without the weekday, which document 01
-//! works out from the date.
+//! The clock: a date and a time of day, without the weekday, which is worked
+//! out from the date.
 
 use crate::outcome::Outcome;
 
@@ -95,7 +95,7 @@ impl Clock {
         }
     }
 
-    /// Whether this is a valid date of document 01.
+    /// Whether this is a valid date, as the rules have it.
     #[must_use]
     pub fn is_valid(self) -> bool {
         self.first_fault().is_none()

@@ -1,6 +1,6 @@
-//! The gateway of document 01: frames in, replies out, over one store and one
+//! The gateway of the rules: frames in, replies out, over one store and one
 //! clock. The public calls take plain numbers and byte buffers and end with an
-//! outcome number of document 01 for every input.
+//! outcome number of the rules for every input.
 
 pub mod clock;
 pub mod crc;

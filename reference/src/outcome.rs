@@ -1,6 +1,6 @@
-//! The outcome numbers of document 01, and a fault: an outcome with its place.
+//! The outcome numbers of the rules, and a fault: an outcome with its place.
 
-/// How a call ended, by document 01's number.
+/// How a call ended, by the rules' number.
 #[derive(Clone, Copy, Debug, PartialEq, Eq)]
 #[repr(u8)]
 pub enum Outcome {
@@ -49,7 +49,7 @@ pub enum Outcome {
 }
 
 impl Outcome {
-    /// The number document 01 gives this outcome.
+    /// The number the rules give this outcome.
     #[must_use]
     pub const fn number(self) -> u8 {
         self as u8

@@ -1,4 +1,4 @@
-//! The examples of document 01, from a fresh store.
+//! The rules' examples, from a fresh store.
 
 mod common;
 

@@ -7,7 +7,7 @@ use reference::{fill, request, tick};
 
 const OWN: [u8; 2] = [UNIT, GROUP];
 
-/// Everything at fault at once, mended step by step in document 01's order.
+/// Everything at fault at once, mended step by step in the rules' order.
 #[test]
 fn the_first_that_applies() {
     let mut station = Station::new();

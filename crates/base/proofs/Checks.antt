@@ -1,7 +1,6 @@
 -- The laws of checks: a proof about a check goes line by line as the check does, and past each line it has what passed there.
 -- Assumes nothing.
 use Prim.Native.Nat.{ℕ}
-use native.Mathlib.Omega.{arith}
 use mathlib.Core.Path.{◌≡◌, refl, ap, ◌∙◌}
 use mathlib.Core.Bool.{Bool, true, false}
 use mathlib.Core.List.{List, [], ◌∷◌}
@@ -35,6 +34,15 @@ unfolding ◌>>=◌
 step_with faulty h = faulty
 step_with (passing q) h = h _ q
 
+-- what passes a test is that it holds
+pub tested : (b : Bool) (n p : ℕ) → Holds (λ _. b ≡ true) (test b n p)
+unfolding test
+tested true n p = passing refl
+tested false n p = faulty
+
+pub step-test : {B : Type 0} {b : Bool} (n p : ℕ) {x : Check B} {P : B → Type 0} → (b ≡ true → Holds P x) → Holds P (test b n p >>= λ _. x)
+step-test {b} n p h = step_with (tested b n p) λ _. h
+
 -- three checks, one behind the other
 pub then_then : {A B C : Type 0} (c : Check A) (f : A → Check B) (g : B → Check C) → (c >>= f >>= g) ≡ (c >>= λ a. f a >>= g)
 unfolding ◌>>=◌
@@ -56,6 +64,10 @@ pub hold_same : {A B : Type 0} {c : Check A} {f g : A → Check B} {Q : A → Ty
 unfolding ◌>>=◌
 hold_same faulty h = refl
 hold_same (passing q) h = h _ q
+
+-- the same of a test: it holds where the two go on
+pub same-test : {B : Type 0} {b : Bool} (n p : ℕ) {x y : Check B} → (b ≡ true → x ≡ y) → (test b n p >>= λ _. x) ≡ (test b n p >>= λ _. y)
+same-test {b} n p h = hold_same (tested b n p) λ _. h
 
 -- and from two checks that come out alike
 pub both-same : {A B : Type 0} {c c' : Check A} {f g : A → Check B} {Q : A → Type 0}
@@ -90,5 +102,11 @@ on_fault f e = rw e
 -- where the whole passes, so does the first
 pub first_passes : {A B : Type 0} (c : Check A) {f : A → Check B} {x : B} → (c >>= f) ≡ pass x → (a : A) × ((c ≡ pass a) × (f a ≡ pass x))
 unfolding ◌>>=◌
-first_passes (fault n p) e = let z : ◌≡◌ {A = ℕ} 0 1 = cc in absurd (omega arith)
+first_passes (fault n p) e = cc
 first_passes (pass a) e = (a, (refl, e))
+
+-- and a first test holds
+pub first-test : {B : Type 0} (b : Bool) (n p : ℕ) (x : Check B) {y : B} → (test b n p >>= λ _. x) ≡ pass y → b ≡ true
+unfolding ◌>>=◌ test
+first-test true n p x e = refl
+first-test false n p x e = cc

@@ -8,7 +8,7 @@ use native.Mathlib.Omega.{arith}
 use lib.ListN.{length, get_or, take, drop, length-append, get_or-append}
 use lib.Seq.{get_or-append-add, take-append_seam, drop-append-add, take_at, take-take, drop-drop}
 use Rattle.base.specs.Lists.{part, sum, joined, upward, zipped}
-use Rattle.base.proofs.Parts.{slice-part}
+use Rattle.std.proofs.lemmas.List.{drop-take}
 
 -- the k-th element of the i-th of several lists
 pub joined_at : {A : Type 0} (d : A) (xs : List (List A)) (i k : ℕ) → k < length (get_or xs i [])
@@ -36,9 +36,9 @@ length-joined (x ∷ xs) = length-append x (joined xs) ∙ ap (λ (n : ℕ). len
 pub part-part : (s : List ℕ) (b m a n : ℕ) → a + n ≤ m → part (part s b m) a n ≡ part s (b + a) n
 unfolding part
 part-part s b m a n h =
-    slice-part a n (take m (drop b s))
+    sym (drop-take a n (take m (drop b s)))
     ∙ ap (drop a) (take-take (a + n) m (drop b s) h)
-    ∙ sym (slice-part a n (drop b s))
+    ∙ drop-take a n (drop b s)
     ∙ ap (take n) (drop-drop a b s)
 
 -- of lists that are all of one length, the l-th

@@ -1,9 +1,7 @@
 pub mod Below
-pub mod Tests
 pub mod Checks
 pub mod Sums
 pub mod Parts
 pub mod Joined
 pub mod Numbers
-pub mod Copies
 pub mod Written

@@ -3,23 +3,22 @@
 use mathlib.Core.Path.{◌≡◌, refl, sym, ap, ◌∙◌}
 use mathlib.Core.List.{List, [], ◌∷◌, ◌++◌, append_assoc, append-nil}
 use mathlib.Core.Logic.{◌⊎◌, inl, inr}
-use Prim.Native.Nat.{ℕ, zero, suc, ◌+◌, ◌-◌, ◌≤◌, ◌<◌}
-use native.Mathlib.Nat.{suc-add, zero-add, add-zero, add_assoc}
+use Prim.Native.Nat.{ℕ, suc, ◌+◌, ◌-◌, ◌≤◌, ◌<◌}
+use native.Mathlib.Nat.{add-zero, add_assoc}
 use native.Mathlib.Numerals.{add-one}
 use native.Mathlib.Omega.{arith}
 use lib.ListN.{length, get_or, take, drop, length-append, length-take, length-drop, take-append-drop}
-use lib.Seq.{length-take-le, take_at, drop_at, take-append-le, take-take, take-add, drop-cons, drop-drop, take-nil}
+use lib.Seq.{take-length, length-take-le, take_at, drop_at, take-append-le, take-take, take-add, drop-cons, drop-drop}
+use Rattle.std.proofs.lemmas.List.{drop-take}
 use Rattle.base.specs.Lists.{part, put}
-
--- the n elements from a, the other way round
-pub slice-part : (a n : ℕ) (s : List ℕ) → take n (drop a s) ≡ drop a (take (a + n) s)
-slice-part zero n s = ap (λ (k : ℕ). take k s) (sym (zero-add n))
-slice-part (suc a) n [] = take-nil n ∙ ap (λ (l : List ℕ). drop (suc a) l) (sym (take-nil (suc a + n)))
-slice-part (suc a) n (x ∷ s) = slice-part a n s ∙ ap (λ (k : ℕ). drop (suc a) (take k (x ∷ s))) (sym (suc-add a n))
 
 pub length_part : (s : List ℕ) (a n : ℕ) → a + n ≤ length s → length (part s a n) ≡ n
 unfolding part
 length_part s a n h = length-take-le n (drop a s) (simp length-drop (omega arith))
+
+pub part_all : (s : List ℕ) (n : ℕ) → length s ≡ n → part s 0 n ≡ s
+unfolding part
+part_all s n e = rw (← e) (take-length s)
 
 -- the first element of a part, and the rest
 pub part-cons : (s : List ℕ) (a n : ℕ) → a < length s → part s a (suc n) ≡ get_or s a 0 ∷ part s (a + 1) n
@@ -47,16 +46,16 @@ module _ (s v : List ℕ) (a : ℕ) (fits : a + length v ≤ length s) where
   head-length = simp (length-append, length-take) (omega arith)
 
   -- a part that ends at or before the place
-  pub part-before : (b n : ℕ) → b + n ≤ a → part (put s a v) b n ≡ part s b n
+  part-before : (b n : ℕ) → b + n ≤ a → part (put s a v) b n ≡ part s b n
   unfolding put part
   part-before b n h =
-      slice-part b n (take a s ++ v ++ drop (a + length v) s)
+      sym (drop-take b n (take a s ++ v ++ drop (a + length v) s))
       ∙ ap (λ (l : List ℕ). drop b (take (b + n) l)) (append_assoc (take a s) v (drop (a + length v) s))
       ∙ ap (drop b) (take-append-le (b + n) (take a s) (v ++ drop (a + length v) s) (simp length-take (omega arith)) ∙ take-take (b + n) a s h)
-      ∙ sym (slice-part b n s)
+      ∙ drop-take b n s
 
   -- a part that begins behind what was put
-  pub part_behind : (b n : ℕ) → a + length v ≤ b → part (put s a v) b n ≡ part s b n
+  part_behind : (b n : ℕ) → a + length v ≤ b → part (put s a v) b n ≡ part s b n
   unfolding put part
   part_behind b n h =
       let k : ℕ = b - (a + length v) in

@@ -1,12 +1,11 @@
 -- A list written piece by piece from its front: each piece behind the ones before makes one piece of them all.
 -- Assumes nothing.
 use mathlib.Core.Path.{◌≡◌, sym, ap, ap₂, ◌∙◌}
-use mathlib.Core.List.{List, [], ◌∷◌, ◌++◌, append_assoc, append-nil}
+use mathlib.Core.List.{List, ◌++◌, append_assoc, append-nil}
 use Prim.Native.Nat.{ℕ, ◌+◌, ◌-◌, ◌≤◌}
 use native.Mathlib.Nat.{zero-add}
-use native.Mathlib.Numerals.{add-one}
 use native.Mathlib.Omega.{arith}
-use lib.ListN.{length, take, drop, set, length-append, length-drop, take-append-drop}
+use lib.ListN.{length, take, drop, length-append, length-drop, take-append-drop}
 use lib.Seq.{sets, sets-eq, take_at, drop_at, take-append_seam, drop-append-add, drop-drop, drop-length, length-take-le}
 use Rattle.base.specs.Lists.{part, put, over}
 use Rattle.base.proofs.Parts.{length_part}
@@ -69,6 +68,3 @@ length_over s v h = simp (length-append, length-drop) (omega arith)
 pub stored : (s v : List ℕ) (a : ℕ) → a + length v ≤ length s → sets s a v ≡ put s a v
 unfolding put
 stored s v a h = sets-eq v s a h
-
-pub stored-two : (s : List ℕ) (i a b : ℕ) → i + 2 ≤ length s → set (set s i a) (i + 1) b ≡ put s i (a ∷ b ∷ [])
-stored-two s i a b h = rw add-one (stored s (a ∷ b ∷ []) i h)

@@ -1,6 +1,6 @@
 -- A check: the first fault that is found, with its number and its place, or what is known past it.
 -- Assumes nothing.
-use Rattle.std.specs.Prelude.{ℕ, ◌+◌, ◌≡◌, refl, Bool, true, false}
+use Rattle.std.specs.Prelude.{ℕ, ◌+◌, Bool, true, false}
 
 pub data Check (A : Type 0) : Type 0 where
   fault : (number place : ℕ) → Check A
@@ -12,10 +12,15 @@ unfoldable pub ◌>>=◌ : {A B : Type 0} → Check A → (A → Check B) → Ch
 fault n p >>= f = fault n p
 pass a >>= f = f a
 
--- A test with the number and the place of its fault. What passes it is the fact that it passed.
-unfoldable pub test : (b : Bool) → (number place : ℕ) → Check (b ≡ true)
-test true n p = pass refl
+-- a test, with the number and the place of its fault
+unfoldable pub test : Bool → (number place : ℕ) → Check Unit
+test true n p = pass tt
 test false n p = fault n p
+
+-- A name for what a check computes through: to unfold it is to unfold what its line names.
+unfoldable pub checks : ℕ
+unfolding ◌>>=◌ test
+checks = 0
 
 -- a check whose places are counted from a place on
 unfoldable pub from : {A : Type 0} → ℕ → Check A → Check A

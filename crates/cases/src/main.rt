@@ -1,86 +1,92 @@
-// Runs files of cases and writes what came of each: outcome, reply length, reply in hexadecimal.
-//
-// A file is run from a fresh store, at station 1,2 and from 2000-01-01 00:00:00 on; a second passes before each case. A case is a record of 272
-// bytes: level, a zero, the frame's length in two bytes, 263 bytes with the frame at their start, five zeros.
+//! Runs files of cases and writes what came of each: outcome, reply length, reply in hexadecimal.
+//!
+//! A file is run from a fresh store, at station 1,2 and from 2000-01-01 00:00:00 on; a second passes before each case.
 #![tactic(auto)]
 
+mod records;
+
+use records::Record;
+use std::fmt;
 use std::fs::File;
 use std::io::{self, Read};
 use std::rt::Files;
 
-const RECORD: usize = 272;
-
-const LONGEST_FRAME: usize = 263;
-
-fn write_hex(rt: &impl Print, bytes: &[u8], count: usize) -> io::Result<()> {
-    for byte in bytes.iter().take(count) {
-        print!(rt; "{byte:02x}")?;
-    }
-    Ok(())
+/// What a run of cases changes.
+#[derive(Drop)]
+struct Station {
+    store: [u8; store::LENGTH],
+    clock: [u8; 7],
 }
 
-fn tell(rt: &impl Print, outcome: u8, length: u16, reply: &[u8]) -> io::Result<()> {
-    print!(rt; "{outcome} {length}")?;
-    if length > 0 {
-        print!(rt; " ")?;
+impl Station {
+    fn new() -> Station {
+        let mut store = [0u8; store::LENGTH];
+        gateway::tyurkanim_fill(&mut store);
+        Station {
+            store,
+            clock: [0, 0, 0, 1, 1, 208, 7],
+        }
     }
-    write_hex(rt, reply, usize::from(length))?;
-    println!(rt)
 }
 
-fn run_case(
-    rt: &impl Print,
-    level: u8,
-    frame: &[u8],
-    store: &mut [u8],
-    clock: &mut [u8; 7],
-) -> io::Result<()> {
-    gateway::tyurkanim_tick(clock);
-    let mut reply = [0u8; LONGEST_FRAME];
+/// Bytes, printed in hexadecimal.
+#[derive(Clone, Copy)]
+struct Hex<'a>(&'a [u8]);
+
+impl fmt::Display for Hex<'_> {
+    fn fmt<W: fmt::Write>(&self, f: &mut fmt::Formatter<W>) -> fmt::Result {
+        for byte in self.0 {
+            write!(f, "{byte:02x}")?;
+        }
+        Ok(())
+    }
+}
+
+/// What came of a case.
+#[derive(Clone, Copy)]
+struct Answer<'a> {
+    outcome: u8,
+    reply: &'a [u8],
+}
+
+impl fmt::Display for Answer<'_> {
+    fn fmt<W: fmt::Write>(&self, f: &mut fmt::Formatter<W>) -> fmt::Result {
+        write!(f, "{} {}", self.outcome, self.reply.len())?;
+        if !self.reply.is_empty() {
+            write!(f, " {}", Hex(self.reply))?;
+        }
+        Ok(())
+    }
+}
+
+fn run_case(rt: &impl Print, record: &Record, station: &mut Station) -> io::Result<()> {
+    gateway::tyurkanim_tick(&mut station.clock);
+    let mut reply = [0u8; frame::LONGEST];
     let mut length: u16 = 0;
     let outcome = gateway::tyurkanim_request(
-        frame,
-        store,
-        clock,
+        record.frame(),
+        &mut station.store,
+        &mut station.clock,
         1,
         2,
-        level,
+        record.level(),
         &mut reply,
         &mut length,
     );
-    tell(rt, outcome, length, &reply)
-}
-
-// Answers whether to go on: not behind the last whole record, nor behind one whose length is more than it has room for.
-fn run_next(
-    rt: &impl Print,
-    cases: &mut impl Read,
-    store: &mut [u8],
-    clock: &mut [u8; 7],
-) -> io::Result<bool> {
-    let mut case = [0u8; RECORD];
-    if cases.read_exact(&mut case).is_err() {
-        return Ok(false);
-    }
-    let length = usize::from(u16::from_le_bytes([case[2], case[3]]));
-    if length > LONGEST_FRAME {
-        return Ok(false);
-    }
-    run_case(rt, case[0], &case[4..4 + length], store, clock)?;
-    Ok(true)
+    let answer = Answer {
+        outcome,
+        reply: &reply[..usize::from(length).min(frame::LONGEST)],
+    };
+    println!(rt; "{answer}")
 }
 
 // A proved loop has to end, and nothing says that a file does: so the turns are counted, up to a number that no file uses up.
-fn run_all(
-    rt: &impl Print,
-    cases: &mut impl Read,
-    store: &mut [u8],
-    clock: &mut [u8; 7],
-) -> io::Result<()> {
+fn run_all(rt: &impl Print, cases: &mut impl Read, station: &mut Station) -> io::Result<()> {
     for _ in 0..u64::MAX {
-        if !run_next(rt, cases, store, clock)? {
+        let Some(record) = Record::read(cases) else {
             break;
-        }
+        };
+        run_case(rt, &record, station)?;
     }
     Ok(())
 }
@@ -88,18 +94,14 @@ fn run_all(
 // A file that cannot be opened is told of on the standard error, and none of its cases is run.
 fn run(rt: &(impl Files + Print + Eprint), name: &str) -> io::Result<()> {
     println!(rt; "{name}")?;
-    let mut cases = match File::open(rt, name) {
-        Ok(cases) => cases,
-        Err(error) => return eprintln!(rt; "{name}: {error}"),
-    };
-    let mut store = [0u8; 12427];
-    gateway::tyurkanim_fill(&mut store);
-    let mut clock = [0, 0, 0, 1, 1, 208, 7];
-    run_all(rt, &mut cases, &mut store, &mut clock)
+    match File::open(rt, name) {
+        Ok(mut cases) => run_all(rt, &mut cases, &mut Station::new()),
+        Err(error) => eprintln!(rt; "{name}: {error}"),
+    }
 }
 
-// Document 01: "167, type 98, start 0: count 56 gives 254 data bytes, 57 would give 258 (28). 180 of 63 bytes gives 253; of 64 would give 257
-// (28)." Then frames from the Rust program.
+// A read of 56 parameters of type 98 gives 254 data bytes, and one of 57 would give 258; 63 parameters named by opcode 180 give 253, and 64 would
+// give 257. Then frames from the Rust program.
 fn main(rt: HostRuntime) -> io::Result<()> {
     let names = [
         "167-count-56",

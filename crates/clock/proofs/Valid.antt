@@ -4,10 +4,10 @@ use Prim.Native.Nat.{ℕ, suc, ◌+◌, ◌*◌, ◌/◌, ◌%◌, ◌≤◌, �
 use native.Mathlib.Numerals.{add-one}
 use native.Mathlib.Omega.{arith}
 use mathlib.Core.Path.{◌≡◌, refl}
-use mathlib.Core.Bool.{Bool, true, false, ◌&&◌, cond}
-use borrow.Author.Tests.{leb-true, le-leb, ltb-true, lt-ltb}
+use mathlib.Core.Bool.{Bool, true, false, cond}
+use borrow.Author.Tests.{leb-true}
 use lib.ListN.{get_or, set}
-use lib.Dec.{leb, ltb}
+use lib.Dec.{leb}
 use Rattle.base.proofs.Below.{at-below}
 use Rattle.clock.specs.Calendar.{first_year, last_year, leap, lengths, month_days, valid_date}
 use Rattle.clock.specs.Moments.{valid_clock, midnight, day_later, later, clock_of, clock_bytes}
@@ -23,42 +23,22 @@ pub record Valid (c : Clock) : Type 0 where
   pub from_one : 1 ≤ c.day
   pub to_days : c.day ≤ month_days c.year c.month
 
-&&-left : (x y : Bool) → (x && y) ≡ true → x ≡ true
-&&-left true y e = refl
-&&-left false y e = e
-
-&&-right : (x y : Bool) → (x && y) ≡ true → y ≡ true
-&&-right true y e = e
-&&-right false y e = let z : ◌≡◌ {A = ℕ} 0 1 = cc in absurd (omega arith)
-
 pub valid_facts : (c : Clock) → valid_clock c ≡ true → Valid c
 unfolding valid_clock valid_date
 valid_facts c e =
-    let e1 = &&-right (ltb c.second 60) _ e in
-    let e2 = &&-right (ltb c.minute 60) _ e1 in
-    let e3 = &&-right (ltb c.hour 24) _ e2 in
-    let e4 = &&-right (leb first_year c.year) _ e3 in
-    let e5 = &&-right (leb c.year last_year) _ e4 in
     record {
-      second = ltb-true _ _ (&&-left _ _ e);
-      minute = ltb-true _ _ (&&-left _ _ e1);
-      hour = ltb-true _ _ (&&-left _ _ e2);
-      from_first = leb-true _ _ (&&-left _ _ e3);
-      to_last = leb-true _ _ (&&-left _ _ e4);
-      from_one = leb-true _ _ (&&-left _ _ e5);
-      to_days = leb-true _ _ (&&-right (leb 1 c.day) _ e5);
+      second = grind arith;
+      minute = grind arith;
+      hour = grind arith;
+      from_first = grind arith;
+      to_last = grind arith;
+      from_one = grind arith;
+      to_days = grind arith;
     }
 
 pub facts_valid : (c : Clock) → Valid c → valid_clock c ≡ true
 unfolding valid_clock valid_date
-facts_valid c v =
-    simp (lt-ltb _ _ v.second, lt-ltb _ _ v.minute, lt-ltb _ _ v.hour, le-leb _ _ v.from_first, le-leb _ _ v.to_last, le-leb _ _ v.from_one, le-leb _ _ v.to_days)
-
--- ---- one second later
-
-by_cases : (P : Clock → Type 0) (x : Bool) (c d : Clock) → (x ≡ true → P c) → (x ≡ false → P d) → P (cond x c d)
-by_cases P true c d f g = f refl
-by_cases P false c d f g = g refl
+facts_valid c v = grind arith
 
 -- each of the twelve months has a day
 some_day : (y m : ℕ) → m < 12 → 1 ≤ month_days y (m + 1)
@@ -70,38 +50,32 @@ some_day y m h = rw add-one (go (leap y))
     go false = leb-true _ _ (at-below 12 (λ j. leb 1 (get_or (set lengths 2 28) (suc j) 0)) refl m h)
 
 january : (y : ℕ) → 1 ≤ month_days y 1
-unfolding month_days
-january y = omega arith
+january y = some_day y 0 (omega arith)
 
-midnight-valid : (y m d : ℕ) → first_year ≤ y → y ≤ last_year → 1 ≤ d → d ≤ month_days y m → Valid (midnight y m d)
-midnight-valid y m d a b e f =
-    record { second = omega arith; minute = omega arith; hour = omega arith; from_first = a; to_last = b; from_one = e; to_days = f }
+-- ---- one second later
+
+midnight_valid : (y m d : ℕ) → first_year ≤ y → y ≤ last_year → 1 ≤ d → d ≤ month_days y m → valid_clock (midnight y m d) ≡ true
+unfolding valid_clock valid_date
+midnight_valid y m d a b e f = grind arith
+
+day_later-valid : (c : Clock) → Valid c → valid_clock (day_later c) ≡ true
+unfolding day_later
+day_later-valid c v =
+    let e : valid_clock c ≡ true = facts_valid c v in
+    grind (arith, midnight_valid, some_day, january)
 
 -- another time of the same day
 same_day : (c : Clock) (s m h : ℕ) → Valid c → s < 60 → m < 60 → h < 24
-    → Valid (record { second = s; minute = m; hour = h; day = c.day; month = c.month; year = c.year })
-same_day c s m h v es em eh =
-    record { second = es; minute = em; hour = eh; from_first = v.from_first; to_last = v.to_last; from_one = v.from_one; to_days = v.to_days }
+    → valid_clock (record { second = s; minute = m; hour = h; day = c.day; month = c.month; year = c.year }) ≡ true
+unfolding valid_clock valid_date
+same_day c s m h v es em eh = grind arith
 
-module _ (c : Clock) (v : Valid c) where
-  day_later-valid : Valid (day_later c)
-  unfolding day_later
-  day_later-valid =
-      by_cases Valid (ltb c.day (month_days c.year c.month)) _ _
-      (λ e. midnight-valid c.year c.month (c.day + 1) v.from_first v.to_last (omega arith) (omega (arith, ltb-true c.day _ e)))
-      λ _. by_cases Valid (ltb c.month 12) _ _
-      (λ e. midnight-valid c.year (c.month + 1) 1 v.from_first v.to_last (omega arith) (some_day c.year c.month (ltb-true _ _ e)))
-      λ _. by_cases Valid (ltb c.year last_year) _ _
-      (λ e. midnight-valid (c.year + 1) 1 1 (omega (arith, v.from_first)) (omega (arith, ltb-true c.year last_year e)) (omega arith) (january (c.year + 1)))
-      λ _. v
-
-  pub later-valid : Valid (later c)
-  unfolding later
-  later-valid =
-      by_cases Valid (ltb c.second 59) _ _ (λ e. same_day c (c.second + 1) c.minute c.hour v (omega (arith, ltb-true c.second 59 e)) v.minute v.hour)
-      λ _. by_cases Valid (ltb c.minute 59) _ _ (λ e. same_day c 0 (c.minute + 1) c.hour v (omega arith) (omega (arith, ltb-true c.minute 59 e)) v.hour)
-      λ _. by_cases Valid (ltb c.hour 23) _ _ (λ e. same_day c 0 0 (c.hour + 1) v (omega arith) (omega arith) (omega (arith, ltb-true c.hour 23 e)))
-      λ _. day_later-valid
+pub later-valid : (c : Clock) → Valid c → Valid (later c)
+unfolding later
+later-valid c v =
+    let d = day_later-valid c v in
+    let same = λ (s m h : ℕ). same_day c s m h v in
+    valid_facts _ (grind (arith, same))
 
 -- seven bytes hold a moment
 pub read_back : (c : Clock) → clock_of (clock_bytes c) ≡ c

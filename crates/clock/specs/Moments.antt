@@ -1,9 +1,11 @@
 -- The clock: which moments are valid, the moment one second later, and the seven bytes that hold one.
 -- Assumes nothing.
-use Rattle.std.specs.Prelude.{Bool, ◌&&◌, cond, List, [], ◌∷◌, ℕ, ◌+◌, ◌*◌, ◌/◌, ◌%◌, ltb, get_or}
+use Rattle.std.specs.Prelude.{Bool, ◌&&◌, cond, if◌then◌else◌, Result, Ok, Err, List, [], ◌∷◌, ℕ, ◌+◌, ◌*◌, ◌/◌, ◌%◌, ltb, get_or}
+use Rattle.faults.specs.Faults.{number_of}
+use Rattle.faults.specs.declared.Refusal.{Refusal}
+use Rattle.faults.specs.declared.Refusal.TheVariants.{NotReady}
 use Rattle.clock.specs.Calendar.{last_year, valid_date, month_days, weekday_of}
 use Rattle.clock.specs.declared.Clock.{Clock}
-use Rattle.clock.specs.declared.Ticked.{Ticked}
 
 unfoldable pub valid_clock : Clock → Bool
 valid_clock c = ltb c.second 60 && (ltb c.minute 60 && (ltb c.hour 24 && valid_date c.year c.month c.day))
@@ -28,9 +30,23 @@ later c =
     (record { second = 0; minute = 0; hour = c.hour + 1; day = c.day; month = c.month; year = c.year })
     (day_later c)))
 
+-- one second later, where it is a moment
+abbrev pub next_moment : Clock → Result Clock Refusal
+next_moment c = if valid_clock c then Ok (later c) else Err NotReady
+
+-- the outcome of a tick, and what the clock shows after it
+pub record Ticked : Type 0 where
+  pub outcome : ℕ
+  pub clock : Clock
+
+-- a refused tick leaves the clock as it was
+abbrev pub ticked : Clock → Result Clock Refusal → Ticked
+ticked c (Ok d) = record { outcome = 0; clock = d }
+ticked c (Err r) = record { outcome = number_of r; clock = c }
+
 -- one second later; an invalid date comes back unchanged, marked 3
 unfoldable pub tick : Clock → Ticked
-tick c = cond (valid_clock c) (record { outcome = 0; clock = later c }) (record { outcome = 3; clock = c })
+tick c = ticked c (next_moment c)
 
 -- worked out from the date; 0 where that is not valid
 unfoldable pub weekday_at : Clock → ℕ

@@ -1,4 +1,4 @@
--- Demand 2, what is acted on: the values that a request brings are stored, all and in their order; the reply and the clock are as listed.
+-- What is acted on: the values that a request brings are stored, all and in their order; the reply and the clock are as listed.
 -- Assumes nothing.
 use Prim.Native.Nat.{ℕ, zero, suc}
 use native.Mathlib.Omega.{arith}
@@ -16,9 +16,10 @@ use Rattle.rules.specs.Deeds.{Piece, Deeds, shown, told}
 use Rattle.rules.specs.Entries.{Caller, request, Source, block, named, located, after}
 use Rattle.rules.specs.Lists.{read_level, write_level, reading, writing}
 use Rattle.rules.specs.Opcodes.{plan7, plan8, plan167, plan166, plan180, plan181, plan10, plan11, Opcode, read7, set8, read10, write11, write166, read167, read180, write181, unserved, plan}
-use Rattle.rules.specs.Answer.{Answer, planned, answer}
+use Rattle.rules.specs.Answer.{Answer, planned}
 use Rattle.rules.proofs.Answered.{Answered, unheard, refused, acted, answered}
 use Rattle.demands.specs.Brought.{values_in, brought, values_of, replied, clock_left, operation, ActedOn}
+use Rattle.demands.specs.Stores.{RequestLeavesWhatItBrings}
 use Rattle.demands.proofs.Tabled.{next-names}
 use Rattle.demands.proofs.Listed.{silent-number, faulted-number}
 use Rattle.demands.proofs.Replies.{sending}
@@ -81,7 +82,7 @@ kept_by b a h e = elim (rw e at (keeps b a.level h (data_of a.frame) (operation 
 pub brings : (b : Build) (a : Asked) (h : Held) {d : Deeds} → planned b a h ≡ pass d → d.puts ≡ brought b (operation a) h (data_of a.frame)
 brings b a h e = (kept_by b a h e).puts
 
-pub acts : (b : Build) (a : Asked) (h : Held) (r : List ℕ) → (answer b a h r).outcome ≡ 0 → ActedOn b a h r (answer b a h r)
+pub acts : RequestLeavesWhatItBrings
 acts b a h r = go (answered b a h r)
   where
     go : {x : Answer} → Answered b a h r x → x.outcome ≡ 0 → ActedOn b a h r x

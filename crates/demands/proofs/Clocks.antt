@@ -1,30 +1,30 @@
--- Demand 2, the clock: a valid date stays one, whatever a request sets it to, and as it ticks.
+-- The clock: a valid date stays one, whatever a request sets it to, and as it ticks.
 -- Assumes nothing.
-use Prim.Native.Nat.{ℕ, ◌<◌}
+use Prim.Native.Nat.{ℕ}
 use native.Mathlib.Omega.{arith}
 use mathlib.Core.Path.{◌≡◌}
 use mathlib.Core.Bool.{true}
 use mathlib.Core.List.{List}
 use borrow.Author.Tests.{leb-true, ltb-true}
-use lib.ListN.{get_or, take}
-use lib.Seq.{get_or-take}
+use lib.ListN.{take}
 use lib.Dec.{leb}
 use Rattle.base.proofs.Below.{both_left, both_right}
-use Rattle.base.proofs.Checks.{Holds, faulty, passing, step, holds-map}
+use Rattle.base.proofs.Checks.{Holds, faulty, passing, step, holds-map, step-test}
 use Rattle.clock.specs.Calendar.{first_year}
 use Rattle.clock.specs.Moments.{valid_clock, clock_of}
 use Rattle.clock.proofs.Valid.{valid_facts, facts_valid, later-valid, read_back}
 use Rattle.points.specs.Types.{Build}
-use Rattle.rules.specs.Asked.{Asked, Held}
+use Rattle.rules.specs.Asked.{Held}
 use Rattle.frame.specs.Frame.{data_of}
 use Rattle.rules.specs.Opcodes.{plan8, Opcode, read7, set8, read10, write11, write166, read167, read180, write181, unserved, plan}
-use Rattle.rules.specs.Answer.{Answer, answer}
-use Rattle.rules.specs.System.{Passed, ticking}
+use Rattle.rules.specs.Answer.{Answer}
+use Rattle.rules.specs.System.{Passed}
 use Rattle.rules.proofs.Answered.{Answered, unheard, refused, acted, answered, Moved, moved_on, stopped, moved}
 use Rattle.demands.specs.Brought.{clock_left, operation}
+use Rattle.demands.specs.InOrder.{RequestKeepsDate, TickKeepsDate}
 use Rattle.demands.proofs.Acted.{keeps}
 
-pub tick-valid : (c : List ℕ) → valid_clock (clock_of c) ≡ true → valid_clock (clock_of (ticking c).clock) ≡ true
+pub tick-valid : TickKeepsDate
 tick-valid c v = go (moved c)
   where
     go : {x : Passed} → Moved c x → valid_clock (clock_of x.clock) ≡ true
@@ -35,14 +35,12 @@ tick-valid c v = go (moved c)
 
 front : (d : List ℕ) → clock_of (take 7 d) ≡ clock_of d
 unfolding clock_of
-front d =
-    let at : (j : ℕ) → j < 7 → get_or (take 7 d) j 0 ≡ get_or d j 0 = λ j h. get_or-take 7 d j 0 h in
-    rw (at 0 (omega arith), at 1 (omega arith), at 2 (omega arith), at 3 (omega arith), at 4 (omega arith), at 5 (omega arith), at 6 (omega arith))
+front = grind arith
 
 set-valid : (L : ℕ) (d : List ℕ) → Holds (λ x. valid_clock (clock_of x.clock) ≡ true) (plan8 L d)
 unfolding plan8
 set-valid L d =
-    step _ λ _. step _ λ _. step _ λ s. step _ λ m. step _ λ h. step _ λ _. step _ λ y. step _ λ day. step _ λ _.
+    step _ λ _. step _ λ _. step-test _ _ λ s. step-test _ _ λ m. step-test _ _ λ h. step _ λ _. step-test _ _ λ y. step-test _ _ λ day. step _ λ _.
     passing (rw (front d) (facts_valid _ (record {
       second = ltb-true _ _ s;
       minute = ltb-true _ _ m;
@@ -67,7 +65,7 @@ plan-valid b L h d v read180 = holds-map (keeps b L h d read180) λ x q. rw q.cl
 plan-valid b L h d v write181 = holds-map (keeps b L h d write181) λ x q. rw q.clock v
 plan-valid b L h d v unserved = faulty
 
-pub clock_valid : (b : Build) (a : Asked) (h : Held) (r : List ℕ) → valid_clock (clock_of h.clock) ≡ true → valid_clock (clock_of (answer b a h r).clock) ≡ true
+pub clock_valid : RequestKeepsDate
 clock_valid b a h r v = go (answered b a h r)
   where
     go : {x : Answer} → Answered b a h r x → valid_clock (clock_of x.clock) ≡ true

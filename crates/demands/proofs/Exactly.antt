@@ -1,5 +1,7 @@
--- Demand 2, refusals: an outcome comes exactly where its row is the first of the call's table that applies.
+-- Refusals: an outcome comes exactly where its row is the first of the call's table that applies.
 -- Assumes nothing.
+use native.Mathlib.Omega.{arith}
+use Rattle.std.proofs.lemmas.Grind.{common_steps}
 use Prim.Native.Nat.{ℕ}
 use mathlib.Core.Path.{◌≡◌, refl, sym, ◌∙◌}
 use mathlib.Core.Logic.{inl, inr, ◌↔◌}
@@ -18,6 +20,7 @@ use Rattle.rules.proofs.Answered.{Answered, unheard, refused, acted, answered, F
 use Rattle.demands.specs.Table.{Refusal, first_of, First, Gives}
 use Rattle.demands.specs.Tables.{received_table, plan_table, request_table, system_table, fill_table, tick_table, number_table}
 use Rattle.demands.specs.Outcomes.{reading_outcome}
+use Rattle.demands.specs.Endings.{SystemWriteEndsByItsTable, NumberReadEndsByItsTable, RawReadEndsByItsTable, FillEndsByItsTable, TickEndsByItsTable}
 use Rattle.demands.proofs.Says.{first_given, given_first, none_given, given_none, join_first, Says, blank}
 use Rattle.demands.proofs.Tabled.{received-says}
 use Rattle.demands.proofs.Planned.{plan-says}
@@ -26,10 +29,7 @@ use Rattle.demands.proofs.Unframed.{setting-says, number-says, raw-says}
 -- ---- a table gives one number
 
 gives_one : (rs : List Refusal) (m n : ℕ) → Gives rs m → Gives rs n → m ≡ n
-gives_one rs m n (inl x) (inl y) = x.1 ∙ sym y.1
-gives_one rs m n (inl x) (inr y) = let e = none_given rs x.0 in let f = first_given rs y.1 in cc
-gives_one rs m n (inr x) (inl y) = let e = none_given rs y.0 in let f = first_given rs x.1 in cc
-gives_one rs m n (inr x) (inr y) = let e = first_given rs x.1 in let f = first_given rs y.1 in cc
+gives_one = grind (arith, common_steps, first_given, none_given)
 
 -- so an outcome that a table gives is n exactly where the table gives n
 by_table : (rs : List Refusal) (m n : ℕ) → Gives rs m → (m ≡ n) ↔ Gives rs n
@@ -106,17 +106,17 @@ tick_gives c = go (moved c)
     go (moved_on e) = inl ((e, tt), refl)
     go (stopped e) = inr (0, inl (e, refl, refl))
 
-pub system_exactly : (b : Build) (s : List ℕ) (t l k : ℕ) (v : List ℕ) (n : ℕ) → ((system_write b s t l k v).outcome ≡ n) ↔ Gives (system_table b s t l k v) n
+pub system_exactly : SystemWriteEndsByItsTable
 system_exactly b s t l k v n = by_table (system_table b s t l k v) _ n (system_gives b s t l k v)
 
-pub number_exactly : (b : Build) (s : List ℕ) (t l k n : ℕ) → (reading_outcome (reading_of (number_read b s t l k)) ≡ n) ↔ Gives (number_table b s t l k) n
+pub number_exactly : NumberReadEndsByItsTable
 number_exactly b s t l k n = by_table (number_table b s t l k) _ n (number-gives b s t l k)
 
-pub raw_exactly : (b : Build) (s : List ℕ) (t l k kind bits n : ℕ) → ((telling kind bits (raw_read b s t l k)).outcome ≡ n) ↔ Gives (number_table b s t l k) n
+pub raw_exactly : RawReadEndsByItsTable
 raw_exactly b s t l k kind bits n = by_table (number_table b s t l k) _ n (raw-gives b s t l k kind bits)
 
-pub fill_exactly : (b : Build) (s : List ℕ) (n : ℕ) → ((fill b s).outcome ≡ n) ↔ Gives (fill_table b s) n
+pub fill_exactly : FillEndsByItsTable
 fill_exactly b s n = by_table (fill_table b s) _ n (fill_gives b s)
 
-pub tick_exactly : (c : List ℕ) (n : ℕ) → ((ticking c).outcome ≡ n) ↔ Gives (tick_table c) n
+pub tick_exactly : TickEndsByItsTable
 tick_exactly c n = by_table (tick_table c) _ n (tick_gives c)

@@ -1,17 +1,18 @@
--- Demand 2, the store: what is not named keeps its bytes, what is named holds the last value, and what may not be written is never changed.
+-- The store: what is not named keeps its bytes, what is named holds the last value, and what may not be written is never changed.
 -- Assumes nothing.
+use Rattle.std.proofs.lemmas.Grind.{common_steps}
 use Prim.Native.Nat.{ℕ, ◌<◌}
 use native.Mathlib.Omega.{arith}
-use mathlib.Core.Path.{◌≡◌, refl, ap, ◌∙◌}
-use mathlib.Core.Bool.{true, false}
+use mathlib.Core.Path.{◌≡◌, refl, ◌∙◌}
+use mathlib.Core.Bool.{true}
 use mathlib.Core.List.{List, ◌∷◌, ◌++◌}
 use borrow.Author.Tests.{leb-true, not-true}
 use lib.ListN.{length}
 use Rattle.base.proofs.Checks.{all_map}
 use Rattle.points.specs.Row.{locked_at}
 use Rattle.points.specs.Types.{Build, logicals, point, row}
-use Rattle.store.specs.Store.{value, Write}
-use Rattle.store.proofs.Laws.{Names, stored_elsewhere, stored_there}
+use Rattle.store.specs.Store.{value, Write, Names}
+use Rattle.store.proofs.Laws.{stored_elsewhere, stored_there}
 use Rattle.frame.specs.Frame.{data_of}
 use Rattle.rules.specs.Asked.{Asked, Held}
 use Rattle.rules.specs.Entries.{request}
@@ -57,14 +58,10 @@ module _ (b : Build) (a : Asked) (h : Held) (r : List ℕ) (i l k : ℕ) (hl : l
 
   -- nothing that is read-only, the size of logical 0 of type 124 among it
   pub read_only : locked_at (row i k).access l ≡ true → value b (answer b a h r).store i l k ≡ value b h.store i l k
-  read_only e =
-      barred λ w o n.
-      let f : locked_at (row i k).access l ≡ false = rw (← n.0, ← n.1, ← n.2) (not-true _ o.free) in
-      let z : ◌≡◌ {A = ℕ} 0 1 = cc in omega arith
+  unfolding answer row value
+  read_only = grind (arith, common_steps, barred, not-true)
 
   -- nothing whose write level is above its own
   pub out_of_reach : a.level < (point i).writes → value b (answer b a h r).store i l k ≡ value b h.store i l k
-  out_of_reach e =
-      barred λ w o n.
-      let f : (point w.type).writes ≡ (point i).writes = ap (λ (j : ℕ). (point j).writes) n.0 in
-      omega (arith, leb-true (point w.type).writes a.level o.level)
+  unfolding answer point value
+  out_of_reach = grind (arith, common_steps, barred, leb-true)

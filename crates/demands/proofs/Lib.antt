@@ -17,3 +17,4 @@ pub mod Unique
 pub mod Numbered
 pub mod Runs
 pub mod Readings
+pub mod Rulesets

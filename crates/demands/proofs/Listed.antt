@@ -1,4 +1,4 @@
--- Demand 1, outcomes: every call ends with one that document 01 lists for it.
+-- Outcomes: every call ends with one that the rules list for it.
 -- Assumes nothing.
 use Prim.Native.Nat.{ℕ, zero, suc, ◌+◌}
 use native.Mathlib.Omega.{arith}
@@ -10,7 +10,6 @@ use Rattle.base.specs.Check.{fault}
 use Rattle.base.specs.Lists.{All}
 use Rattle.points.specs.Types.{Build, Point, point, index_of}
 use Rattle.store.specs.Store.{Write}
-use Rattle.values.specs.Number.{number_read, reading_of, raw_read, telling}
 use Rattle.frame.specs.Frame.{opcode, data_of}
 use Rattle.rules.specs.Asked.{Asked, Held}
 use Rattle.rules.specs.Received.{received}
@@ -18,13 +17,13 @@ use Rattle.rules.specs.Deeds.{Piece}
 use Rattle.rules.specs.Entries.{Caller, request, Source, block, named, located, spoken, after, locked_place}
 use Rattle.rules.specs.Lists.{read_level, write_level}
 use Rattle.rules.specs.Opcodes.{Opcode, read7, set8, read10, write11, write166, read167, read180, write181, unserved, opcode_of}
-use Rattle.rules.specs.Answer.{Answer, planned, answer}
-use Rattle.rules.specs.System.{system_write, fill, ticking}
+use Rattle.rules.specs.Answer.{Answer, planned}
 use Rattle.rules.proofs.Answered.{Answered, unheard, refused, acted, answered}
 use Rattle.demands.specs.Table.{Refusal, First, Gives}
 use Rattle.demands.specs.Rows.{entry_table, name_of, value_table, read_table, write_table}
 use Rattle.demands.specs.Tables.{received_table, span_table, locate_table, count_table, plan_table, system_table, number_table, fill_table, tick_table}
-use Rattle.demands.specs.Outcomes.{Silent, Faulted, Listed, Among, reading_outcome}
+use Rattle.demands.specs.Outcomes.{Silent, Faulted, Listed, Among}
+use Rattle.demands.specs.Endings.{RequestEndsAsListed, SystemWriteEndsAsListed, NumberReadEndsAsListed, RawReadEndsAsListed, FillEndsAsListed, TickEndsAsListed}
 use Rattle.demands.proofs.Says.{given_first, first_has, blank}
 use Rattle.demands.proofs.Tabled.{received-says}
 use Rattle.demands.proofs.Planned.{plan-says}
@@ -90,7 +89,7 @@ faulted-number b a h n p e =
     let d = data_of a.frame in
     first_has Faulted n p (plan_table b o a.level h d) (plan-numbers b a.level h d o).each (given_first _ (sym (plan-says b a.level h d o).says ∙ rw e))
 
-pub listed : (b : Build) (a : Asked) (h : Held) (r : List ℕ) → Listed (answer b a h r).outcome
+pub listed : RequestEndsAsListed
 listed b a h r = go (answered b a h r)
   where
     go : {x : Answer} → Answered b a h r x → Listed x.outcome
@@ -110,18 +109,17 @@ among-table rs n (inr x) = inr (go rs x.1)
     go (q ∷ qs) (inl e) = inl (sym e.1)
     go (q ∷ qs) (inr e) = inr (go qs e.1)
 
-pub system_listed : (b : Build) (s : List ℕ) (t l k : ℕ) (v : List ℕ)
-    → Among (0 ∷ 2 ∷ 22 ∷ 23 ∷ 24 ∷ 21 ∷ 27 ∷ []) (system_write b s t l k v).outcome
+pub system_listed : SystemWriteEndsAsListed
 system_listed b s t l k v = among-table (system_table b s t l k v) _ ((system_exactly b s t l k v _).0 refl)
 
-pub number-listed : (b : Build) (s : List ℕ) (t l k : ℕ) → Among (0 ∷ 2 ∷ 22 ∷ 23 ∷ 24 ∷ 27 ∷ []) (reading_outcome (reading_of (number_read b s t l k)))
+pub number-listed : NumberReadEndsAsListed
 number-listed b s t l k = among-table (number_table b s t l k) _ ((number_exactly b s t l k _).0 refl)
 
-pub raw-listed : (b : Build) (s : List ℕ) (t l k kind bits : ℕ) → Among (0 ∷ 2 ∷ 22 ∷ 23 ∷ 24 ∷ 27 ∷ []) (telling kind bits (raw_read b s t l k)).outcome
+pub raw-listed : RawReadEndsAsListed
 raw-listed b s t l k kind bits = among-table (number_table b s t l k) _ ((raw_exactly b s t l k kind bits _).0 refl)
 
-pub fill-listed : (b : Build) (s : List ℕ) → Among (0 ∷ 2 ∷ []) (fill b s).outcome
+pub fill-listed : FillEndsAsListed
 fill-listed b s = among-table (fill_table b s) _ ((fill_exactly b s _).0 refl)
 
-pub tick-listed : (c : List ℕ) → Among (0 ∷ 3 ∷ []) (ticking c).outcome
+pub tick-listed : TickEndsAsListed
 tick-listed c = among-table (tick_table c) _ ((tick_exactly c _).0 refl)

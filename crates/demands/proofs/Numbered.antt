@@ -1,7 +1,7 @@
--- `Agree` goes by a type's index and leaves out the bounds. Here by document 01's numbers: it is enough that the stores agree wherever a
+-- `Agree` goes by a type's index and leaves out the bounds. Here by the rules' numbers: it is enough that the stores agree wherever a
 -- type, a logical and a parameter are found.
 -- Assumes nothing.
-use Prim.Native.Nat.{ℕ, ◌+◌, ◌≤◌, ◌<◌}
+use Prim.Native.Nat.{ℕ, ◌≤◌, ◌<◌}
 use native.Mathlib.Omega.{arith}
 use mathlib.Core.Path.{◌≡◌, refl, sym, ap, ◌∙◌}
 use mathlib.Core.Bool.{Bool, true, false}
@@ -12,11 +12,11 @@ use lib.Dec.{eqb, ltb}
 use Rattle.base.specs.Lists.{part}
 use Rattle.base.proofs.Below.{at-below}
 use Rattle.points.specs.Types.{points, Build, logicals, point, height, index_of}
-use Rattle.points.specs.Place.{row_len, lens, len_at, first, offset, place_of}
-use Rattle.points.specs.There.{There}
+use Rattle.points.specs.Place.{row_len, lens, len_at, offset, place_of, spot_of}
 use Rattle.store.specs.Store.{value}
-use Rattle.rules.proofs.Agree.{Agree}
+use Rattle.demands.specs.Found.{There}
 use Rattle.points.proofs.Rows.{six}
+use Rattle.demands.specs.Secrecy.{AgreementByNumber}
 
 -- each of the six is found by its own number
 same_index : (i : ℕ) → i < 6 → index_of (point i).id ≡ i
@@ -30,16 +30,9 @@ no_bytes b s i l k h = ap (part s (offset b i l k)) (get_or-eq_default (lens (po
 
 is_there_lem : (b : Build) (t l k : ℕ) → l < logicals b (index_of t) → k < height (point (index_of t)) → There (place_of b t l k)
 unfolding place_of
-is_there_lem b t l k hl hk =
-    record {
-      row = first (index_of t) + k;
-      begin = offset b (index_of t) l k;
-      long = len_at (index_of t) k;
-      found = simp (lt-ltb 0 (logicals b (index_of t)) (omega arith), lt-ltb _ _ hl, lt-ltb _ _ hk);
-    }
+is_there_lem b t l k hl hk = (spot_of b (index_of t) l k, simp (lt-ltb 0 (logicals b (index_of t)) (omega arith), lt-ltb _ _ hl, lt-ltb _ _ hk))
 
-pub agree_by_number : (b : Build) (K : ℕ) (s t : List ℕ)
-    → ((y l k : ℕ) → There (place_of b y l k) → (point (index_of y)).reads ≤ K → value b s (index_of y) l k ≡ value b t (index_of y) l k) → Agree b K s t
+pub agree_by_number : AgreementByNumber
 agree_by_number b K s t same i l k hl hr = go (ltb k (height (point i))) refl
   where
     e : index_of (point i).id ≡ i

@@ -1,7 +1,6 @@
 -- Each opcode's checks are its table, and so are those of the system write and of the number read.
 -- Assumes nothing.
 use Prim.Native.Nat.{ℕ}
-use native.Mathlib.Omega.{arith}
 use mathlib.Core.Path.{◌≡◌, refl}
 use mathlib.Core.Bool.{Bool, true, false}
 use mathlib.Core.List.{List, [], ◌∷◌}
@@ -38,7 +37,7 @@ again false x y z n last m h k = record { says = k.says }
 again true false y z n last m h k = record { says = k.says }
 again true true false z n last m h k = record { says = k.says }
 again true true true true n last m h k = record { says = k.says }
-again true true true false n last m h k = let z : ◌≡◌ {A = ℕ} 0 1 = cc (h refl) in absurd (omega arith)
+again true true true false n last m h k = cc (h refl)
 
 spans-says : (b : Build) (d : List ℕ)
     → Says (spans b d) (short_row 4 d ∷ type_row b (get_or d 0 0) 0 ∷ logical_row b (get_or d 0 0) (get_or d 1 0) 1 ∷ count_row (get_or d 2 0) 2 ∷ parameter_row (get_or d 0 0) (last_of d) 3 ∷ [])

@@ -1,4 +1,4 @@
--- Demand 2, ranges: a store all of whose values are in range stays so under every call, and the fresh store is so.
+-- Ranges: a store all of whose values are in range stays so under every call, and the fresh store is so.
 -- Assumes nothing.
 use Prim.Native.Nat.{ℕ, ◌<◌}
 use native.Mathlib.Omega.{arith}
@@ -19,15 +19,16 @@ use Rattle.values.specs.Weighable.{passes}
 use Rattle.values.specs.Kinds.{printed, signed_of, finite32, finite64, valid_tlp, number_tlp, of_kind}
 use Rattle.values.specs.Judged.{status_ok, rate_ok, size_ok, in_range, judged}
 use Rattle.values.specs.Pairs.{pair_of, paired, together}
-use Rattle.rules.specs.Asked.{Asked, Held}
-use Rattle.rules.specs.Answer.{Answer, answer}
-use Rattle.rules.specs.System.{Left, system_write, fill}
-use Rattle.rules.proofs.InRange.{InRange, stored_in_range}
+use Rattle.rules.specs.Answer.{Answer}
+use Rattle.rules.specs.System.{Left, fill}
+use Rattle.rules.specs.InRange.{InRange}
+use Rattle.rules.proofs.InRange.{stored_in_range}
 use Rattle.rules.proofs.Answered.{Answered, unheard, refused, acted, answered, Written, unset, was_set, written, Filled, filled_up, unfilled, filled}
 use Rattle.demands.specs.Good.{NoLarger}
 use Rattle.points.proofs.Rows.{six}
+use Rattle.demands.specs.InOrder.{RequestKeepsRange, SystemWriteKeepsRange}
 
-pub stays_in_range : (b : Build) (a : Asked) (h : Held) (r : List ℕ) → InRange b h.store → InRange b (answer b a h r).store
+pub stays_in_range : RequestKeepsRange
 stays_in_range b a h r good = go (answered b a h r)
   where
     go : {x : Answer} → Answered b a h r x → InRange b x.store
@@ -35,18 +36,18 @@ stays_in_range b a h r good = go (answered b a h r)
     go (refused k e) = good
     go (acted {d} k e l) = stored_in_range b h.store k.whole good d.puts l.puts.sound l.puts.judged
 
-pub system_in_range : (b : Build) (s : List ℕ) (t l k : ℕ) (v : List ℕ) → InRange b s → InRange b (system_write b s t l k v).store
+pub system_in_range : SystemWriteKeepsRange
 system_in_range b s t l k v good = go (written b s t l k v)
   where
     go : {x : Left} → Written b s t l k v x → InRange b x.store
     go (unset e) = good
     go (was_set {ws} w e q) = stored_in_range b s w good ws q.sound q.judged
 
--- ---- the fresh store, of a build with no more logicals of any type than document 01's
+-- ---- the fresh store, of a build with no more logicals of any type than the gateway's
 
 passed_is : (c : Check Unit) → passes c ≡ true → c ≡ pass tt
 unfolding passes
-passed_is (fault n p) e = let z : ◌≡◌ {A = ℕ} 0 1 = cc in absurd (omega arith)
+passed_is (fault n p) e = cc
 passed_is (pass x) e = refl
 
 -- one test over the defaults of all 2,990 parameters

@@ -1,4 +1,4 @@
--- Demand 1, refusals: they leave store and clock, and the reply space holds one error frame or is untouched.
+-- Refusals: they leave store and clock, and the reply space holds one error frame or is untouched.
 -- Assumes nothing.
 use Prim.Native.Nat.{ℕ}
 use native.Mathlib.Omega.{arith}
@@ -15,13 +15,18 @@ use Rattle.store.specs.Fresh.{fresh}
 use Rattle.values.specs.Number.{Raw, raw_read, telling}
 use Rattle.rules.specs.Asked.{Asked, Held}
 use Rattle.rules.specs.Answer.{Answer, to_all, error_opcode, error_data, sent, answer}
-use Rattle.rules.specs.System.{Left, system_write, fill, Passed, ticking}
+use Rattle.rules.specs.System.{Left, fill, Passed}
 use Rattle.rules.proofs.Places.{place-fits}
-use Rattle.rules.proofs.Answered.{Answered, unheard, refused, acted, answered, Written, unset, was_set, written, Filled, filled_up, unfilled, filled, Moved, moved_on, stopped, moved}
+use Rattle.rules.proofs.Answered.{received_is, Answered, unheard, refused, acted, answered, Written, unset, was_set, written, Filled, filled_up, unfilled, filled, Moved, moved_on, stopped, moved}
 use Rattle.demands.specs.Outcomes.{Silent, Faulted, Untouched, ErrorFrame}
+use Rattle.demands.specs.Refusals.{PlaceIsByte, RefusedSystemWriteChangesNothing, RefusedFillChangesNothing, RefusedTickChangesNothing, RefusedRawReadChangesNothing}
 use Rattle.demands.proofs.Listed.{silent-number, faulted-number}
 use Rattle.demands.proofs.Exactly.{refused-row}
 use Rattle.demands.proofs.Replies.{sending}
+
+-- the place of a fault is a byte
+pub place_is_byte : PlaceIsByte
+place_is_byte b a h r n p k e = place-fits b a h r n p (received_is b a h r k) e
 
 module _ (b : Build) (a : Asked) (h : Held) (r : List ℕ) where
   -- a refusal changes neither store nor clock
@@ -72,7 +77,7 @@ module _ (b : Build) (a : Asked) (h : Held) (r : List ℕ) where
 
 -- ---- the calls that no frame reaches
 
-pub system_keeps : (b : Build) (s : List ℕ) (t l k : ℕ) (v : List ℕ) → ((system_write b s t l k v).outcome ≡ 0 → ⊥) → (system_write b s t l k v).store ≡ s
+pub system_keeps : RefusedSystemWriteChangesNothing
 system_keeps b s t l k v = go (written b s t l k v)
   where
     go : {x : Left} → Written b s t l k v x → (x.outcome ≡ 0 → ⊥) → x.store ≡ s
@@ -80,7 +85,7 @@ system_keeps b s t l k v = go (written b s t l k v)
     go (was_set w e q) n = absurd (n refl)
 
 -- a fill refuses, or leaves the defaults
-pub fill-keeps : (b : Build) (s : List ℕ) → ((fill b s).outcome ≡ 0 → ⊥) → (fill b s).store ≡ s
+pub fill-keeps : RefusedFillChangesNothing
 fill-keeps b s = go (filled b s)
   where
     go : {x : Left} → Filled b s x → (x.outcome ≡ 0 → ⊥) → x.store ≡ s
@@ -91,7 +96,7 @@ pub fill_fills : (b : Build) (s : List ℕ) → length s ≡ store_size b → fi
 unfolding fill
 fill_fills b s e = rw (eq-eqb _ _ e)
 
-pub tick-keeps : (c : List ℕ) → ((ticking c).outcome ≡ 0 → ⊥) → (ticking c).clock ≡ c
+pub tick-keeps : RefusedTickChangesNothing
 tick-keeps c = go (moved c)
   where
     go : {x : Passed} → Moved c x → (x.outcome ≡ 0 → ⊥) → x.clock ≡ c
@@ -99,8 +104,7 @@ tick-keeps c = go (moved c)
     go (stopped e) n = refl
 
 -- a number read changes nothing, and a refusal leaves kind and bits as they were
-pub raw-keeps : (b : Build) (s : List ℕ) (t l k kind bits : ℕ) → ((telling kind bits (raw_read b s t l k)).outcome ≡ 0 → ⊥)
-    → ((telling kind bits (raw_read b s t l k)).kind ≡ kind) × ((telling kind bits (raw_read b s t l k)).bits ≡ bits)
+pub raw-keeps : RefusedRawReadChangesNothing
 unfolding telling
 raw-keeps b s t l k kind bits = go (raw_read b s t l k)
   where

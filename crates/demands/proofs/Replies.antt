@@ -1,5 +1,6 @@
--- Demand 1, the reply space: it holds one frame at its front or is untouched, and behind that keeps its bytes; lengths stay.
+-- The reply space: it holds one frame at its front or is untouched, and behind that keeps its bytes; lengths stay.
 -- Assumes nothing.
+use Rattle.std.proofs.lemmas.Grind.{common_steps}
 use Prim.Native.Nat.{ℕ, ◌+◌, ◌≤◌}
 use native.Mathlib.Omega.{arith}
 use mathlib.Core.Path.{◌≡◌, refl, sym, ◌∙◌}
@@ -18,19 +19,16 @@ use Rattle.frame.proofs.Written.{length_frame}
 use Rattle.rules.specs.Asked.{Asked, Held}
 use Rattle.rules.specs.Deeds.{told}
 use Rattle.rules.specs.Answer.{Answer, to_all, error_opcode, sent, answer}
-use Rattle.rules.specs.System.{Left, system_write}
+use Rattle.rules.specs.System.{Left}
 use Rattle.rules.proofs.Told.{told-length}
 use Rattle.rules.proofs.Answered.{Answered, unheard, refused, acted, answered, Written, unset, was_set, written}
 use Rattle.demands.specs.Outcomes.{Untouched, Sends, to_everyone, to_one}
+use Rattle.demands.specs.Replies.{SystemWriteKeepsStoreLength}
 
 -- what is sent is nothing, or a frame with the data
 sent-length : (a : Asked) (op : ℕ) (d : List ℕ) → length (sent a op d) ≤ length d + 8
 unfolding sent
-sent-length a op d = go (to_all a) refl
-  where
-    go : (x : Bool) → to_all a ≡ x → length (sent a op d) ≤ length d + 8
-    go true e = rw e (omega arith)
-    go false e = rw e (omega (arith, length_frame (source a.frame) a.us op d))
+sent-length = grind (arith, common_steps, length_frame)
 
 over_behind : (r f : List ℕ) → drop (length f) (over r f) ≡ drop (length f) r
 unfolding over
@@ -97,7 +95,7 @@ module _ (b : Build) (a : Asked) (h : Held) (r : List ℕ) where
       go (refused k e) c = c
       go (acted k e l) c = l.clock c
 
-pub system_length : (b : Build) (s : List ℕ) (t l k : ℕ) (v : List ℕ) → length (system_write b s t l k v).store ≡ length s
+pub system_length : SystemWriteKeepsStoreLength
 system_length b s t l k v = go (written b s t l k v)
   where
     go : {x : Left} → Written b s t l k v x → length x.store ≡ length s

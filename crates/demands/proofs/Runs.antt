@@ -1,7 +1,8 @@
--- Demand 2 over sequences: what is in order stays in order, whatever calls come, and a filled store with a valid clock is.
+-- Sequences of calls: what is in order stays in order, whatever calls come, and a filled store with a valid clock is.
 -- Assumes nothing.
+use native.Mathlib.Omega.{arith}
 use Prim.Native.Nat.{ℕ}
-use mathlib.Core.Path.{◌≡◌, refl, ◌∙◌}
+use mathlib.Core.Path.{◌≡◌, ◌∙◌}
 use mathlib.Core.Bool.{true}
 use mathlib.Core.List.{List, [], ◌∷◌}
 use lib.ListN.{length}
@@ -10,8 +11,7 @@ use Rattle.points.specs.Types.{Build}
 use Rattle.store.specs.Fresh.{fresh}
 use Rattle.store.proofs.Fresh.{length-fresh}
 use Rattle.rules.specs.Asked.{Held}
-use Rattle.rules.specs.System.{Passed, ticking}
-use Rattle.rules.proofs.Answered.{Moved, moved_on, stopped, moved}
+use Rattle.rules.specs.System.{ticking}
 use Rattle.demands.specs.Calls.{Call, asks, sets, fills, ticks, call, run}
 use Rattle.demands.specs.Good.{Good, NoLarger}
 use Rattle.demands.proofs.Replies.{store_length, clock_length, system_length}
@@ -20,12 +20,8 @@ use Rattle.demands.proofs.Ranges.{stays_in_range, system_in_range, fresh_in_rang
 use Rattle.demands.proofs.Clocks.{clock_valid, tick-valid}
 
 tick_seven : (c : List ℕ) → length c ≡ 7 → length (ticking c).clock ≡ 7
-unfolding clock_bytes
-tick_seven c l = go (moved c)
-  where
-    go : {x : Passed} → Moved c x → length x.clock ≡ 7
-    go (moved_on e) = refl
-    go (stopped e) = l
+unfolding clock_bytes ticking
+tick_seven = grind arith
 
 module _ (b : Build) (small : NoLarger b) where
   -- a fill makes a whole store so

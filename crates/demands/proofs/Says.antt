@@ -1,7 +1,6 @@
 -- The laws of tables: which row a table gives, and a check that goes through a table line by line.
 -- Assumes nothing.
 use Prim.Native.Nat.{ℕ}
-use native.Mathlib.Omega.{arith}
 use mathlib.Core.Path.{◌≡◌, refl, ◌∙◌}
 use mathlib.Core.Bool.{Bool, true, false, cond}
 use mathlib.Core.Logic.{inl, inr}
@@ -22,7 +21,7 @@ module _ {n p : ℕ} where
 
   pub given_first : (rs : List Refusal) → first_of rs ≡ fault n p → First rs n p
   unfolding first_of
-  given_first [] e = let z : ◌≡◌ {A = ℕ} 0 1 = cc in absurd (omega arith)
+  given_first [] e = cc
   given_first (r ∷ rs) e = go r.holds refl e (given_first rs)
     where
       go : (x : Bool) → r.holds ≡ x → cond x (first_of rs) (fault r.number r.place) ≡ fault n p → (first_of rs ≡ fault n p → First rs n p)
@@ -43,7 +42,7 @@ given_none (r ∷ rs) e = go r.holds refl e (given_none rs)
     go : (x : Bool) → r.holds ≡ x → cond x (first_of rs) (fault r.number r.place) ≡ pass tt → (first_of rs ≡ pass tt → NoneApplies rs)
         → NoneApplies (r ∷ rs)
     go true h e ih = (h, ih e)
-    go false h e ih = let z : ◌≡◌ {A = ℕ} 0 1 = cc in absurd (omega arith)
+    go false h e ih = cc
 
 -- ---- the numbers of a table
 
@@ -68,8 +67,8 @@ unfolding blank first_of
 say = record { says = refl }
 
 -- a test is a row
-pub ask : {B : Type 0} {x : Bool} {n p : ℕ} {f : x ≡ true → Check B} {rs : List Refusal} → ((e : x ≡ true) → Says (f e) rs)
-    → Says (test x n p >>= f) (unless x n p ∷ rs)
+pub ask : {B : Type 0} {x : Bool} {n p : ℕ} {y : Check B} {rs : List Refusal} → (x ≡ true → Says y rs)
+    → Says (test x n p >>= λ _. y) (unless x n p ∷ rs)
 unfolding blank first_of ◌>>=◌ test
 ask {x = true} h = record { says = (h refl).says }
 ask {x = false} h = record { says = refl }
@@ -116,7 +115,7 @@ merge {x = false} s = record { says = s.says }
 pub sure : {A : Type 0} {c : Check A} {x : Bool} {n p : ℕ} {rs : List Refusal} → x ≡ true → Says c (unless x n p ∷ rs) → Says c rs
 unfolding first_of
 sure {x = true} e s = record { says = s.says }
-sure {x = false} e s = let z : ◌≡◌ {A = ℕ} 0 1 = cc in absurd (omega arith)
+sure {x = false} e s = cc
 
 -- three rows with one number and one place
 pub merge_right : {A : Type 0} {c : Check A} {x y z : Bool} {n p : ℕ} {rs : List Refusal} → Says c (unless x n p ∷ unless y n p ∷ unless z n p ∷ rs)
@@ -129,4 +128,4 @@ merge_right {x = false} s = record { says = s.says }
 pub sure_next : {A : Type 0} {c : Check A} {r : Refusal} {x : Bool} {n p : ℕ} {rs : List Refusal} → x ≡ true → Says c (r ∷ unless x n p ∷ rs) → Says c (r ∷ rs)
 unfolding first_of
 sure_next {x = true} e s = record { says = s.says }
-sure_next {x = false} e s = let z : ◌≡◌ {A = ℕ} 0 1 = cc in absurd (omega arith)
+sure_next {x = false} e s = cc

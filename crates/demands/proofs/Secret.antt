@@ -1,19 +1,19 @@
--- Demand 3: two stores that agree on all that level K may read are not told apart by any sequence of calls at levels up to K, and still
+-- Secrecy: two stores that agree on all that level K may read are not told apart by any sequence of calls at levels up to K, and still
 -- agree afterwards.
 -- Assumes nothing.
 use Prim.Native.Nat.{ℕ}
 use mathlib.Core.Path.{◌≡◌, refl, ap, ap₂, ◌∙◌}
 use mathlib.Core.List.{List, [], ◌∷◌}
 use lib.ListN.{length}
-use Rattle.base.specs.Lists.{All}
 use Rattle.points.specs.Types.{Build}
 use Rattle.points.specs.Place.{store_size}
 use Rattle.store.proofs.Fresh.{length-fresh}
 use Rattle.rules.specs.Asked.{Held}
 use Rattle.rules.specs.Answer.{Answer}
-use Rattle.rules.proofs.Agree.{Agree}
+use Rattle.rules.specs.Agree.{Agree}
 use Rattle.rules.proofs.Same.{SameAnswer, answer-same, system_same}
-use Rattle.demands.specs.Calls.{Call, asks, sets, fills, ticks, Seen, framed, unframed, call, run, Within, Alike, Untold, Secret}
+use Rattle.demands.specs.Calls.{Call, asks, sets, fills, ticks, Seen, framed, unframed, call, run, Within, Untold}
+use Rattle.demands.specs.Secrecy.{CallTellsNothing, RunTellsNothing}
 use Rattle.demands.proofs.Replies.{store_length, system_length}
 use Rattle.demands.proofs.Refused.{fill_fills}
 
@@ -48,7 +48,7 @@ module _ (b : Build) (K : ℕ) (s t : List ℕ) (ls : length s ≡ store_size b)
       (record { seen = refl; held = record { whole = length-fresh b; whole_too = length-fresh b; store = λ i l k hl hr. refl; clock = refl } })
   call_same ticks h = record { seen = refl; held = record { whole = ls; whole_too = lt; store = same; clock = refl } }
 
-pub untold : (b : Build) (K : ℕ) (h g : Held) → Alike b K h g → (x : Call) → Within K x → Untold b K (call b h x) (call b g x)
+pub untold : CallTellsNothing
 untold b K h g e x w = go g.clock e.clock
   where
     go : (c : List ℕ) → h.clock ≡ c → Untold b K (call b h x) (call b (record { store = g.store; clock = c }) x)
@@ -56,7 +56,7 @@ untold b K h g e x w = go g.clock e.clock
 
 -- ---- any sequence
 
-pub secret : (b : Build) (K : ℕ) (h g : Held) → Alike b K h g → (cs : List Call) → All (Within K) cs → Secret b K h g cs
+pub secret : RunTellsNothing
 unfolding run
 secret b K h g e [] w = record { seen = refl; held = e }
 secret b K h g e (c ∷ cs) w =

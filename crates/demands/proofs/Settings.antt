@@ -1,4 +1,4 @@
--- Demand 2, the system write: the parameter holds the value, every other keeps its bytes.
+-- The system write: the parameter holds the value, every other keeps its bytes.
 -- Assumes nothing.
 use Prim.Native.Nat.{ℕ, ◌≤◌, ◌<◌}
 use native.Mathlib.Omega.{arith}
@@ -8,11 +8,11 @@ use borrow.Author.Tests.{eqb-true}
 use lib.ListN.{length, take}
 use lib.Seq.{take_all}
 use Rattle.base.specs.Check.{fault, pass}
-use Rattle.base.proofs.Checks.{Holds, passing, step}
+use Rattle.base.proofs.Checks.{Holds, passing, step, step-test}
 use Rattle.points.specs.Types.{Build, logicals, index_of}
 use Rattle.points.specs.Place.{len_at}
-use Rattle.store.specs.Store.{value, Write, stored}
-use Rattle.store.proofs.Laws.{Names, stored_there, stored_elsewhere}
+use Rattle.store.specs.Store.{value, Write, Names, stored}
+use Rattle.store.proofs.Laws.{stored_there, stored_elsewhere}
 use Rattle.rules.specs.Entries.{system, block}
 use Rattle.rules.specs.System.{setting, Left, system_write}
 use Rattle.rules.proofs.Answered.{Written, unset, was_set, written}
@@ -26,7 +26,7 @@ module _ (b : Build) (s : List ℕ) (t l k : ℕ) (v : List ℕ) where
   setting_brings : Holds (λ ws. ws ≡ set_to t l k v ∷ []) (setting b s t l k v)
   unfolding setting values_in
   setting_brings =
-      step _ λ _. step _ λ _. step _ λ long.
+      step _ λ _. step _ λ _. step-test _ _ λ long.
       let e : take (len_at (index_of t) k) v ≡ v = take_all (len_at (index_of t) k) v (omega (arith, eqb-true (length v) (len_at (index_of t) k) long)) in
       rw e at (writing_brings b system s (block (index_of t) l k) 1 v 0 [])
 

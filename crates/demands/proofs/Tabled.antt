@@ -7,13 +7,15 @@ use mathlib.Core.Bool.{Bool, true, false, not}
 use mathlib.Core.List.{List, [], ◌∷◌}
 use lib.ListN.{length}
 use lib.Dec.{leb, ltb, eqb}
+use Rattle.std.specs.Prelude.{Ok, Err, if◌then◌else◌}
 use Rattle.base.specs.Check.{fault, pass, ◌>>=◌, test, from}
 use Rattle.base.specs.Lists.{both}
 use Rattle.base.proofs.Checks.{Holds, passing, step}
 use Rattle.points.specs.Types.{Build, Point, logicals, point, height, index_of}
-use Rattle.points.specs.Place.{place_of, pick}
+use Rattle.points.specs.Place.{place_of}
 use Rattle.points.specs.There.{there}
-use Rattle.points.specs.declared.Place.TheVariants.{At, NoType, NoLogical, NoParameter}
+use Rattle.points.specs.declared.Spot.{Spot}
+use Rattle.points.specs.declared.Missing.TheVariants.{NoPointType, NoLogical, NoParameter}
 use Rattle.store.specs.Store.{Write}
 use Rattle.points.specs.Row.{Row}
 use Rattle.values.specs.Kinds.{of_kind}
@@ -53,20 +55,20 @@ received-says b a h r =
 
 pub there-says : (b : Build) (t l k pt pl pk : ℕ) → Says (there (place_of b t l k) pt pl pk) (type_row b t pt ∷ logical_row b t l pl ∷ parameter_row t k pk ∷ [])
 unfolding place_of there blank first_of
-there-says b t l k pt pl pk = go (ltb 0 (logicals b (index_of t))) (ltb l (logicals b (index_of t))) (ltb k (height (point (index_of t)))) _ _ _
+there-says b t l k pt pl pk = go (ltb 0 (logicals b (index_of t))) (ltb l (logicals b (index_of t))) (ltb k (height (point (index_of t)))) _
   where
-    go : (x y z : Bool) (r a n : ℕ) → Says (there (pick x (pick y (pick z (At r a n) NoParameter) NoLogical) NoType) pt pl pk) (unless x 22 pt ∷ unless y 23 pl ∷ unless z 24 pk ∷ [])
-    go true true true r a n = record { says = refl }
-    go true true false r a n = record { says = refl }
-    go true false z r a n = record { says = refl }
-    go false y z r a n = record { says = refl }
+    go : (x y z : Bool) (spot : Spot) → Says (there (if x then if y then if z then Ok spot else Err NoParameter else Err NoLogical else Err NoPointType) pt pl pk) (unless x 22 pt ∷ unless y 23 pl ∷ unless z 24 pk ∷ [])
+    go true true true spot = record { says = refl }
+    go true true false spot = record { says = refl }
+    go true false z spot = record { says = refl }
+    go false y z spot = record { says = refl }
 
 module _ (b : Build) (level : Point → ℕ) (who : Caller) where
   found-says : (t l k pt pl pk : ℕ) → Says (found b level who t l k pt pl pk) (found_table b level who t l k pt pl pk)
   unfolding found
   found-says t l k pt pl pk = follow (there-says b t l k pt pl pk) λ _. ask λ _. say
 
-  pub next-says : (src : Source) (d : List ℕ) (at : ℕ) → Says (next b level who src d at) (entry_table b level who src d at)
+  next-says : (src : Source) (d : List ℕ) (at : ℕ) → Says (next b level who src d at) (entry_table b level who src d at)
   unfolding next
   next-says (block i l k) d at = say
   next-says named d at = ask λ _. found-says _ _ _ _ _ _
@@ -94,7 +96,7 @@ judged-says b r l v at = go (of_kind b r.kind v) (in_range b r.range l v)
     go true false = record { says = ap (fault 27) (add-zero at) }
     go false y = record { says = ap (fault 27) (add-zero at) }
 
-pub accepts-says : (b : Build) (who : Caller) (s : List ℕ) (ws : List Write) (p : Named) (d : List ℕ) (locked at : ℕ)
+accepts-says : (b : Build) (who : Caller) (s : List ℕ) (ws : List Write) (p : Named) (d : List ℕ) (locked at : ℕ)
     → Says (accepts b who s ws p d locked at) (value_table b who s ws p d locked at)
 unfolding accepts
 accepts-says b who s ws p d locked at =

@@ -13,14 +13,15 @@ use Rattle.points.specs.Row.{Kind, text, unsigned, signed, single, double, tlp}
 use Rattle.points.specs.Types.{Build, index_of}
 use Rattle.points.specs.Place.{len_at}
 use Rattle.values.specs.Kinds.{is_number}
-use Rattle.values.specs.Number.{said, number_read, raw, raw_read}
+use Rattle.values.specs.Number.{number_read, raw, raw_read}
+use Rattle.values.proofs.SameReading.{number_raw}
 use Rattle.rules.specs.Entries.{system, block}
 use Rattle.rules.specs.Lists.{writing}
 use Rattle.rules.specs.System.{setting}
 use Rattle.demands.specs.Table.{unless, first_of}
 use Rattle.demands.specs.Rows.{range_holds, write_table}
 use Rattle.demands.specs.Tables.{system_table, number_table}
-use Rattle.demands.proofs.Says.{Says, blank, ask, follow, sure, sure_next}
+use Rattle.demands.proofs.Says.{Says, blank, say, ask, follow, end, sure, sure_next}
 use Rattle.demands.proofs.Tabled.{there-says, writing-says}
 
 -- a list of one value of the right length: it may be read-only, is never short and leaves nothing spare
@@ -38,20 +39,7 @@ unfolding setting
 setting-says b s t l k v =
     ask λ _. follow (there-says b t l k 0 0 0) λ _. ask λ e. one-says b s (index_of t) l k v (eqb-true _ _ e)
 
-said-says : (kind : Kind) (v : List ℕ) → Says (said kind v) (unless (is_number kind) 27 0 ∷ [])
-unfolding said blank first_of
-said-says text v = record { says = refl }
-said-says unsigned v = record { says = refl }
-said-says signed v = record { says = refl }
-said-says single v = record { says = refl }
-said-says double v = record { says = refl }
-said-says tlp v = record { says = refl }
-
-pub number-says : (b : Build) (s : List ℕ) (t l k : ℕ) → Says (number_read b s t l k) (number_table b s t l k)
-unfolding number_read
-number-says b s t l k = ask λ _. follow (there-says b t l k 0 0 0) λ _. said-says _ _
-
--- the same for C
+-- the number read for C
 raw-said : (kind : Kind) (v : List ℕ) → Says (raw kind v) (unless (is_number kind) 27 0 ∷ [])
 unfolding raw blank first_of
 raw-said text v = record { says = refl }
@@ -64,3 +52,7 @@ raw-said tlp v = record { says = refl }
 pub raw-says : (b : Build) (s : List ℕ) (t l k : ℕ) → Says (raw_read b s t l k) (number_table b s t l k)
 unfolding raw_read
 raw-says b s t l k = ask λ _. follow (there-says b t l k 0 0 0) λ _. raw-said _ _
+
+-- for Rust it is refused alike
+pub number-says : (b : Build) (s : List ℕ) (t l k : ℕ) → Says (number_read b s t l k) (number_table b s t l k)
+number-says b s t l k = rw (number_raw b s t l k) (end (raw-says b s t l k) λ _. say)

@@ -1,4 +1,4 @@
--- What a request that is acted on brings and takes, in document 01's words: the values it stores, the data of its reply, the clock it
+-- What a request that is acted on brings and takes, in the rules' words: the values it stores, the data of its reply, the clock it
 -- leaves. No check stands here.
 -- Assumes nothing.
 use Rattle.std.specs.Prelude.{ℕ, zero, suc, ◌≡◌, List, [], ◌∷◌, ◌++◌, get_or, take, drop}
@@ -6,8 +6,7 @@ use Rattle.base.specs.Lists.{All}
 use Rattle.clock.specs.Moments.{clock_of, weekday_at}
 use Rattle.points.specs.Types.{Build, index_of, tables}
 use Rattle.points.specs.Place.{len_at}
-use Rattle.store.specs.Store.{Write, value, values, stored}
-use Rattle.store.proofs.Laws.{Names}
+use Rattle.store.specs.Store.{Write, Names, value, values, stored}
 use Rattle.frame.specs.Frame.{opcode, data_of}
 use Rattle.rules.specs.Asked.{Asked, Held}
 use Rattle.rules.specs.Entries.{Named, Source, block, named, located, spoken, after}

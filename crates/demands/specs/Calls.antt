@@ -6,7 +6,7 @@ use Rattle.points.specs.Place.{store_size}
 use Rattle.rules.specs.Asked.{Asked, Held}
 use Rattle.rules.specs.Answer.{Answer, answer}
 use Rattle.rules.specs.System.{Left, system_write, fill, Passed, ticking}
-use Rattle.rules.proofs.Agree.{Agree}
+use Rattle.rules.specs.Agree.{Agree}
 
 -- A number read is the firmware's own: it has no level, reads everything and answers no request. So it is no part of a sequence.
 pub data Call : Type 0 where

@@ -5,3 +5,12 @@ pub mod Outcomes
 pub mod Brought
 pub mod Calls
 pub mod Good
+pub mod Found
+pub mod Endings
+pub mod Refusals
+pub mod Replies
+pub mod Stores
+pub mod InOrder
+pub mod Readings
+pub mod Secrecy
+pub mod Uniqueness

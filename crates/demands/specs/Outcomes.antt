@@ -1,11 +1,10 @@
--- The outcomes that document 01 lists, and what a request leaves in the reply space.
+-- The outcomes that the rules list, and what a request leaves in the reply space.
 -- Assumes nothing.
 use Rattle.std.specs.Prelude.{ℕ, ◌+◌, ◌≤◌, ◌≡◌, true, false, ◌⊎◌, List, [], ◌∷◌, length}
 use Rattle.base.specs.Lists.{over}
 use Rattle.frame.specs.Address.{source}
 use Rattle.frame.specs.Frame.{frame_of}
-use Rattle.values.specs.declared.Reading.{Reading}
-use Rattle.values.specs.declared.Reading.TheVariants.{Got, Refused}
+use Rattle.values.specs.Number.{Reading, Got, Refused}
 use Rattle.points.specs.Types.{Build}
 use Rattle.rules.specs.Asked.{Asked, Held}
 use Rattle.rules.specs.Answer.{Answer, to_all, error_opcode, error_data}

@@ -1,4 +1,4 @@
--- A table of refusals, read as document 01 reads its own: in order, the first that applies.
+-- A table of refusals, read as the rules read theirs: in order, the first that applies.
 -- Assumes nothing.
 use Rattle.std.specs.Prelude.{ℕ, ◌≡◌, Bool, true, false, cond, ◌⊎◌, List, [], ◌∷◌}
 use Rattle.base.specs.Check.{Check, fault, pass}

@@ -1,4 +1,4 @@
--- The tables of document 01: for each call, what it may be refused for, in order, with number and place.
+-- The tables of the rules: for each call, what it may be refused for, in order, with number and place.
 -- Assumes nothing.
 use Rattle.std.specs.Prelude.{ℕ, ◌+◌, false, not, List, [], ◌∷◌, ◌++◌, length, get_or, take, drop, leb, ltb, eqb}
 use Rattle.base.specs.Lists.{both}

@@ -3,9 +3,9 @@
 use Rattle.std.specs.Prelude.{ℕ, zero, suc, ◌<◌, ◌≡◌, refl, List, [], ◌∷◌, map, length, get_or, drop}
 use Rattle.std.proofs.Common.{not-suc-le-zero, le_of_suc-le-suc, ap}
 use Rattle.examples.specs.Cases.{Case, seen, wanted, computed}
-use Rattle.examples.specs.Examples.{examples, no_case}
+use Rattle.examples.specs.Examples.{examples, no_case, AllAreSeen, EachIsSeen}
 
-pub all_seen : map seen examples ≡ map wanted examples
+pub all_seen : AllAreSeen
 unfolding examples computed
 all_seen = refl
 
@@ -16,5 +16,5 @@ at_row f g [] e i h = absurd (not-suc-le-zero h)
 at_row f g (c ∷ cs) e zero h = ap (λ (l : List _). get_or l 0 (f c)) e
 at_row f g (c ∷ cs) e (suc i) h = at_row f g cs (ap (drop 1) e) i (le_of_suc-le-suc h)
 
-pub each_seen : (i : ℕ) → i < length examples → seen (get_or examples i no_case) ≡ wanted (get_or examples i no_case)
+pub each_seen : EachIsSeen
 each_seen = at_row seen wanted examples all_seen

@@ -1,7 +1,7 @@
--- The examples of docs/RULES.md, "Examples on both sides": one list. proofs/Seen.antt has the theorem over it.
+-- The examples of docs/RULES.md, "Examples on both sides": one list, and what is proved of it.
 -- Assumes nothing.
-use Rattle.std.specs.Prelude.{ℕ, true, false, List, [], ◌∷◌}
-use Rattle.examples.specs.Cases.{Seen, Case, asks, ticks, dates}
+use Rattle.std.specs.Prelude.{ℕ, ◌<◌, ◌≡◌, true, false, List, [], ◌∷◌, map, length, get_or}
+use Rattle.examples.specs.Cases.{Seen, Case, asks, ticks, dates, seen, wanted}
 
 -- an acknowledgment, after which the parameter holds v
 abbrev acted : ℕ → List ℕ → Seen
@@ -58,3 +58,12 @@ examples =
 -- what stands where the list has no place
 abbrev pub no_case : Case
 no_case = dates [] (shows [])
+
+-- ---- what the definitions give for each is what it shows
+
+abbrev pub AllAreSeen : Type 0
+AllAreSeen = map seen examples ≡ map wanted examples
+
+-- each by itself: a place in the list names it
+abbrev pub EachIsSeen : Type 0
+EachIsSeen = (i : ℕ) → i < length examples → seen (get_or examples i no_case) ≡ wanted (get_or examples i no_case)

@@ -1,12 +1,11 @@
--- What each step of a fill is handed, and what it leaves.
+-- What each step of a fill writes.
 -- Assumes nothing.
-use Rattle.std.specs.Prelude.{ℕ, ◌+◌, ◌-◌, ◌≤◌, ◌<◌, ◌≡◌, List, [], length}
+use Rattle.std.specs.Prelude.{ℕ, ◌-◌, cond, eqb, List, [], ◌++◌}
 use Rattle.base.specs.Lists.{part, put}
+use Rattle.base.specs.Bytes.{ascii}
 use Rattle.points.specs.Row.{Row, Default, figure, words, soft_point, segment, full_first}
 use Rattle.points.specs.Types.{gateway}
-use Rattle.points.specs.Place.{offset, store_size}
-use Rattle.points.specs.Columns.{row_at}
-use Rattle.store.specs.Fresh.{fresh}
+use Rattle.store.specs.Fresh.{two_digits, fresh}
 
 -- the text that a default is, where it is one
 abbrev pub words_of : Default → List ℕ
@@ -19,26 +18,10 @@ words_of full_first = []
 abbrev pub row_words : Row → List ℕ
 row_words r = words_of r.default
 
--- a row, and room for its value
-pub record Room (s : List ℕ) (at row : ℕ) : Type 0 where
-  pub below : row < 175
-  pub room : at + (row_at row).len ≤ length s
+-- a segment's description
+abbrev pub segment_text : ℕ → List ℕ
+segment_text l = cond (eqb l 0) (ascii "General 00") (ascii "Segment " ++ two_digits l)
 
 -- the store with the fresh one's bytes from one place up to another
 unfoldable pub renewed : List ℕ → ℕ → ℕ → List ℕ
 renewed s from to = put s from (part (fresh gateway) from (to - from))
-
--- a whole store, and the place where logical l of the i-th type begins
-pub record Begins (s : List ℕ) (at i l : ℕ) : Type 0 where
-  pub whole : length s ≡ store_size gateway
-  pub known : i < 6
-  pub begin : at ≡ offset gateway i l 0
-  pub inside : at ≤ store_size gateway
-
--- s₀ filled from one place up to parameter k of logical l of the i-th type, and the place reached
-pub record Filled (s₀ s : List ℕ) (from at i l k : ℕ) : Type 0 where
-  pub done : s ≡ renewed s₀ from at
-  pub long : length s ≡ length s₀
-  pub reached : at ≡ offset gateway i l k
-  pub onward : from ≤ at
-  pub inside : at ≤ store_size gateway

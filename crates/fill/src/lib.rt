@@ -1,179 +1,149 @@
-// The fill: the default of each parameter, written into the store.
+//! The fill: the default of each parameter, written into the store.
 #![tactic(auto)]
 
-ghost use Rattle.std.specs.Prelude.{◌≡◌, ◌+◌, ◌<◌, ◌≤◌, length, get_or};
-ghost use Rattle.base.specs.Lists.{put};
+ghost use Rattle.std.specs.Prelude.{ℕ, ◌≡◌, ◌+◌, ◌<◌, ◌++◌, length};
 ghost use Rattle.base.specs.Bytes.{bytes, padded};
 ghost use Rattle.points.specs.Types.{gateway, logicals};
 ghost use Rattle.points.specs.Columns.{row_at};
-ghost use Rattle.points.specs.Row.{soft_point, segment, full_first};
-ghost use Rattle.store.specs.Fresh.{start_of, row_start};
+ghost use Rattle.points.specs.Place.{IsInside, offset};
+ghost use Rattle.store.specs.Fresh.{start_of, digits, two_digits};
+ghost use Rattle.faults.specs.Faults.{outcome_of};
 ghost use Rattle.rules.specs.System.{fill};
-ghost use Rattle.fill.specs.Steps.{row_words, Room, Begins, Filled};
+ghost use Rattle.fill.specs.Steps.{renewed, row_words, segment_text};
 
-// Document 01: the store has 12,427 bytes.
-const SIZE: usize = 12427;
+use faults::Refusal;
+use points::{Initial, Logical, Parameter, Spot};
+use store::Store;
 
-// A text is "padded with spaces": its i-th byte, or a space.
-fn letter(text: &[u8], i: usize) -> u8
-    ensures { result ≡ get_or text.now i 32 }
+// A soft point's label has the most bytes of all values.
+const LONGEST_VALUE: usize = 40;
+
+// A text with spaces behind it, or as much of it as there is room for.
+#[tactic(auto, using(crate::proofs::Writing::padded_parts))]
+fn put_text(value: &mut [u8], text: &[u8])
+    ensures { value.new ≡ padded (length value.old) text.now }
 {
-    if i < text.len() {
-        return text[i];
-    }
-    b' '
+    let shown = text.len().min(value.len());
+    let (front, rest) = value.split_at_mut(shown);
+    front.copy_from_slice(&text[..shown]);
+    rest.fill(b' ');
 }
 
-fn put_text(store: &mut [u8], at: usize, n: usize, text: &[u8])
-    requires { at + n ≤ length store.old }
-    ensures { store.new ≡ put store.old at (padded n text.now) }
+// A number, least significant byte first.
+#[tactic(auto, using(crate::proofs::Writing::figure_more, crate::proofs::Writing::figure_all))]
+fn put_figure(value: &mut [u8], figure: u32)
+    ensures { value.new ≡ bytes (length value.old) figure }
 {
-    let mut i: usize = 0;
-    while i < n {
-        store[at + i] = letter(text, i);
-        i += 1;
-    }
-}
-
-fn put_figure(store: &mut [u8], at: usize, n: usize, x: u32)
-    requires { at + n ≤ length store.old }
-    ensures { store.new ≡ put store.old at (bytes n x) }
-{
-    let mut rest = x;
-    let mut i: usize = 0;
-    while i < n {
-        store[at + i] = (rest % 256) as u8;
+    let mut rest = figure;
+    for byte in value.iter_mut() {
+        *byte = (rest % 256) as u8;
         rest /= 256;
-        i += 1;
     }
 }
 
-// Manual 3.4.8: the tags of type 97, ten bytes each. Every other text starts empty.
-fn put_words(store: &mut [u8], at: usize, row: usize)
-    requires { Room store.old at row }
-    ensures { store.new ≡ put store.old at (padded (row_at row).len (row_words (row_at row))) }
+// A number below 100.
+fn two_digits(number: u8) -> [u8; 2]
+    ensures { result ≡ two_digits number }
 {
-    if row < 10 {
-        base::copy(
-            store,
-            at,
-            b"Register1 Register2 Register3 Register4 Register5 Register6 Register7 Register8 Register9 Register10",
-            row * 10,
-            10,
-        );
-        return;
-    }
-    put_text(store, at, points::length_at(row) as usize, b"");
+    [b'0' + number / 10, b'0' + number % 10]
 }
 
-// "Soft Pt x": x is the logical plus 1, in decimal with no leading zero.
-fn put_soft(store: &mut [u8], at: usize, n: usize, l: points::Logical)
-    requires { (at + n ≤ length store.old) × (l.0 < 99) }
-    ensures { store.new ≡ put store.old at (start_of l.0 n soft_point) }
+#[tactic(auto, using(crate::proofs::Writing::label))]
+fn labelled(name: &[u8; 8], digits: [u8; 2]) -> [u8; 10]
+    ensures { result ≡ name.now ++ digits }
 {
-    let x = l.0 + 1;
-    let mut text = *b"Soft Pt   ";
-    if x < 10 {
-        text[8] = b'0' + x;
-        put_text(store, at, n, &text);
-        return;
+    let mut text = [b' '; 10];
+    text[..8].copy_from_slice(name);
+    text[8..].copy_from_slice(&digits);
+    text
+}
+
+// A name and a number below 100, with no leading zero: one digit has a space behind it, the first of those that pad the text.
+#[tactic(auto, using(crate::proofs::Defaults::one_digit, crate::proofs::Defaults::two_digits_long))]
+fn numbered(name: &[u8; 8], number: u8) -> [u8; 10]
+    ensures { (n : ℕ) → padded n result ≡ padded n (name.now ++ digits number) }
+{
+    if number < 10 {
+        return labelled(name, [b'0' + number, b' ']);
     }
-    text[8] = b'0' + x / 10;
-    text[9] = b'0' + x % 10;
-    put_text(store, at, n, &text);
+    labelled(name, two_digits(number))
 }
 
 // "Segment XX": 01 to 12. Manual 3.4.35: logical 0 is "General 00".
-fn put_segment(store: &mut [u8], at: usize, n: usize, l: points::Logical)
-    requires { at + n ≤ length store.old }
-    ensures { store.new ≡ put store.old at (start_of l.0 n segment) }
+fn segment_text(logical: Logical) -> [u8; 10]
+    ensures { result ≡ segment_text logical.0 }
 {
-    let x = l.0;
-    if x == 0 {
-        put_text(store, at, n, b"General 00");
+    if logical.0 == 0 {
+        return *b"General 00";
+    }
+    labelled(b"Segment ", two_digits(logical.0))
+}
+
+// Manual 3.4.8: the tags of type 97, whose rows are the first ten. Every other text starts empty.
+#[tactic(auto, using(crate::proofs::Defaults::tag, crate::proofs::Defaults::no_words))]
+fn put_words(value: &mut [u8], row: usize)
+    ensures { value.new ≡ padded (length value.old) (row_words (row_at row)) }
+{
+    if row < 10 {
+        put_text(value, &numbered(b"Register", row as u8 + 1));
         return;
     }
-    let mut text = *b"Segment 00";
-    text[8] = b'0' + x / 10;
-    text[9] = b'0' + x % 10;
-    put_text(store, at, n, &text);
+    put_text(value, b"");
 }
 
-// "240 only on logical 0".
-fn put_size(store: &mut [u8], at: usize, n: usize, l: points::Logical)
-    requires { at + n ≤ length store.old }
-    ensures { store.new ≡ put store.old at (start_of l.0 n full_first) }
+fn put_default(value: &mut [u8], spot: Spot, logical: Logical)
+    requires inside { IsInside spot }
+    requires long { length value.old ≡ spot.len }
+    requires two_digits { logical.0 < 99 }
+    ensures { value.new ≡ start_of logical.0 spot.len (row_at spot.row).default }
 {
-    let x = l.0;
-    if x == 0 {
-        put_figure(store, at, n, 240);
-        return;
-    }
-    put_figure(store, at, n, 0);
-}
-
-// The forms are numbered as in the column of points.
-fn put_default(store: &mut [u8], at: usize, row: usize, l: points::Logical)
-    requires room { Room store.old at row }
-    requires l_bound { l.0 < 99 }
-    ensures { store.new ≡ put store.old at (row_start l.0 (row_at row)) }
-{
-    let n = points::length_at(row) as usize;
-    let form = points::default_at(row);
-    match form {
-        0 => put_figure(store, at, n, points::figure_at(row)),
-        1 => put_words(store, at, row),
-        2 => put_soft(store, at, n, l),
-        3 => put_segment(store, at, n, l),
-        _ => put_size(store, at, n, l),
+    match points::default_at(spot.row) {
+        Initial::Figure(figure) => put_figure(value, figure),
+        Initial::Words => put_words(value, spot.row),
+        Initial::SoftPoint => put_text(value, &numbered(b"Soft Pt ", logical.0 + 1)),
+        Initial::Segment => put_text(value, &segment_text(logical)),
+        Initial::FullFirst => put_figure(value, if logical.0 == 0 { 240 } else { 0 }),
     }
 }
 
-// "types ascending, logicals ascending, parameters ascending, unpadded": each part begins where the one before it ends, and answers its own end.
-fn fill_logical(store: &mut [u8], at: usize, i: usize, l: points::Logical) -> usize
-    requires begins { Begins store.old at i l.0 }
-    requires l_bound { l.0 < logicals gateway i }
-    ensures { Filled store.old store.new at result i (l.0 + 1) 0 }
+// The parameters of one logical. "types ascending, logicals ascending, parameters ascending, unpadded"
+#[tactic(auto, using(crate::proofs::Steps::renewed_none, crate::proofs::Steps::parameter_turn, crate::proofs::Steps::logical_end, crate::proofs::Steps::logical_small))]
+fn fill_logical(store: &mut Store, index: usize, logical: Logical)
+    requires known { index < 6 }
+    requires built { logical.0 < logicals gateway index }
+    ensures { store.new ≡ renewed store.old (offset gateway index logical.0 0) (offset gateway index (logical.0 + 1) 0) }
 {
-    let first = points::first_of(i) as usize;
-    let height = points::height_of(i) as usize;
-    let mut next = at;
-    let mut k: usize = 0;
-    while k < height {
-        let row = first + k;
-        put_default(store, next, row, l);
-        next += points::length_at(row) as usize;
-        k += 1;
+    for parameter in 0..points::height_of(index) {
+        let spot = points::spot_at(index, logical, Parameter(parameter));
+        let mut space = [0u8; LONGEST_VALUE];
+        let value = &mut space[..spot.len];
+        put_default(value, spot, logical);
+        store::keep(store, spot, value);
     }
-    next
 }
 
-fn fill_type(store: &mut [u8], at: usize, i: usize) -> usize
-    requires { Begins store.old at i 0 }
-    ensures { Filled store.old store.new at result (i + 1) 0 0 }
+#[tactic(auto, using(crate::proofs::Steps::renewed_none, crate::proofs::Steps::logical_turn, crate::proofs::Steps::type_end))]
+fn fill_type(store: &mut Store, index: usize)
+    requires { index < 6 }
+    ensures { store.new ≡ renewed store.old (offset gateway index 0 0) (offset gateway (index + 1) 0 0) }
 {
-    let n = points::logicals_of(i);
-    let mut next = at;
-    let mut l: u8 = 0;
-    while l < n {
-        next = fill_logical(store, next, i, points::Logical(l));
-        l += 1;
+    for logical in 0..points::logicals_of(index) {
+        fill_logical(store, index, Logical(logical));
     }
-    next
 }
 
-// "outcome 2 or the defaults".
-pub fn fill(store: &mut [u8]) -> u8
-    ensures { record { outcome = result; store = store.new } ≡ fill gateway store.old }
+/// The default of every parameter, written into the store.
+///
+/// Refused, with the store as it was: `StoreLength` where it has not 12,427 bytes.
+#[tactic(auto, using(crate::proofs::Steps::renewed_none, crate::proofs::Steps::store_begins, crate::proofs::Steps::type_turn, crate::proofs::Steps::store_ends, crate::proofs::Steps::filled, crate::proofs::Steps::refused))]
+pub fn fill(store: &mut [u8]) -> Result<(), Refusal>
+    ensures { record { outcome = outcome_of result; store = store.new } ≡ fill gateway store.old }
 {
-    if store.len() != SIZE {
-        return 2;
+    let Some(store) = store.as_mut_array::<{ store::LENGTH }>() else {
+        return Err(Refusal::StoreLength);
+    };
+    for index in 0..6usize {
+        fill_type(store, index);
     }
-    let mut at: usize = 0;
-    let mut i: usize = 0;
-    while i < 6 {
-        at = fill_type(store, at, i);
-        i += 1;
-    }
-    0
+    Ok(())
 }

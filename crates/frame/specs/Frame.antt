@@ -16,6 +16,10 @@ opcode f = get_or f 4 0
 abbrev pub data_length : List ℕ → ℕ
 data_length f = get_or f 5 0
 
+-- whether it is for all stations of a group
+abbrev pub is_broadcast : List ℕ → Bool
+is_broadcast f = eqb (get_or f 0 0) 0
+
 unfoldable pub data_of : List ℕ → List ℕ
 data_of f = part f 6 (data_length f)
 

@@ -1,7 +1,7 @@
--- Outcomes 4 to 8: a frame by itself, and whom it is for and from. One line for each test that document 01's rows make, in their order.
+-- Outcomes 4 to 8: a frame by itself, and whom it is for and from. One line for each test that the rules' rows make, in their order.
 -- Assumes nothing.
 use Rattle.std.specs.Prelude.{ℕ, ◌+◌, not, List, eqb, leb, length}
-use Rattle.base.specs.Check.{Check, pass, ◌>>=◌, test, outcome_of}
+use Rattle.base.specs.Check.{Check, pass, ◌>>=◌, test}
 use Rattle.frame.specs.Address.{same_address, stationary, destination, source, for_us}
 use Rattle.frame.specs.Frame.{longest, data_length, crc_right}
 use Rattle.frame.specs.declared.Address.{Address}
@@ -21,9 +21,9 @@ directed us f = do
   _ ← test (not (same_address (source f) us)) 8 0
   pass tt
 
--- as the numbers that the code works with
-unfoldable pub framing : List ℕ → ℕ
-framing f = outcome_of (whole f)
-
-unfoldable pub addressing : Address → List ℕ → ℕ
-addressing us f = outcome_of (directed us f)
+-- a frame that a request may be: the one, then the other
+abbrev pub framed : Address → List ℕ → Check Unit
+framed us f = do
+  _ ← whole f
+  _ ← directed us f
+  pass tt

@@ -1,2 +1,4 @@
-pub mod Finding
-pub mod Sources
+pub mod Found
+pub mod Next
+pub mod Taken
+pub mod Stood

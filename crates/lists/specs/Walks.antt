@@ -1,63 +1,82 @@
--- The declared types of the lists, as the rules have them.
+-- The declared types of the lists, as the rules have them, and a list with entries taken.
 -- Assumes nothing.
-use Rattle.std.specs.Prelude.{ℕ, ◌+◌, ◌*◌, ◌≤◌, ◌≡◌, Bool, true, false, List, length, get_or, drop}
-use Rattle.base.specs.Check.{Check, fault, pass}
-use Rattle.points.specs.Types.{Point, gateway}
-use Rattle.points.specs.Place.{first, offset, len_at, Here}
+use Rattle.std.specs.Prelude.{ℕ, ◌+◌, ◌*◌, ◌≤◌, ◌<◌, List, get_or, drop}
+use Rattle.base.specs.Check.{Check, pass, ◌>>=◌}
+use Rattle.points.specs.Types.{Point, point, height, segments, logicals, gateway}
+use Rattle.points.specs.Place.{first, spot_of, IsInside}
 use Rattle.points.specs.Columns.{read_levels, write_levels}
+use Rattle.points.specs.declared.Tlp.{Tlp}
+use Rattle.points.specs.declared.Missing.{Missing}
+use Rattle.points.specs.declared.Missing.TheVariants.{NoPointType, NoLogical, NoParameter}
+use Rattle.faults.specs.declared.Fault.{Fault}
+use Rattle.faults.specs.declared.Refusal.TheVariants as refusals
 use Rattle.rules.specs.Entries as rules
-use Rattle.rules.specs.Entries.{Named, block, named, located, request, system}
+use Rattle.rules.specs.Entries.{Source, block, named, located, request, system}
+use Rattle.rules.specs.Lists.{read_level, write_level}
 use Rattle.lists.specs.declared.Caller.{Caller}
-use Rattle.lists.specs.declared.Entry.{Entry}
-use Rattle.lists.specs.declared.Source.{Source}
-use Rattle.lists.specs.declared.Source.TheVariants.{Block, Named as NamedS, Located}
-use Rattle.lists.specs.declared.Next.{Next}
-use Rattle.lists.specs.declared.Next.TheVariants.{Found, Fault}
+use Rattle.lists.specs.declared.Caller.TheVariants.{Request, System}
+use Rattle.lists.specs.declared.Purpose.{Purpose}
+use Rattle.lists.specs.declared.Purpose.TheVariants.{Read, Write}
+use Rattle.lists.specs.declared.finding.Entry.{Entry}
+use Rattle.lists.specs.declared.finding.Places.{Places}
 
-abbrev pub caller_by : Bool → ℕ → rules.Caller
-caller_by true L = system
-caller_by false L = request L
-
-unfoldable pub caller_of : Caller → rules.Caller
-caller_of c = caller_by c.system c.level
+abbrev pub caller_of : Caller → rules.Caller
+caller_of (Request L) = request L
+caller_of System = system
 
 -- the level that reading or writing needs: of a type, and of a row
-unfoldable pub level_by : Bool → Point → ℕ
-level_by true p = p.writes
-level_by false p = p.reads
+abbrev pub level_by : Purpose → Point → ℕ
+level_by Read = read_level
+level_by Write = write_level
 
-unfoldable pub level_at : Bool → ℕ → ℕ
-level_at true r = get_or write_levels r 0
-level_at false r = get_or read_levels r 0
+abbrev pub level_at : Purpose → ℕ → ℕ
+level_at Read r = get_or read_levels r 0
+level_at Write r = get_or write_levels r 0
 
--- a list with e entries taken; bs are the locations that it had
-unfoldable pub source_at : Source → ℕ → List ℕ → rules.Source
-source_at (Block i l k) e bs = block i l (k + e)
-source_at NamedS e bs = named
-source_at Located e bs = located (drop (3 * e) bs)
+-- a list with e entries taken
+unfoldable pub taken : ℕ → Source → Source
+taken e (block i l k) = block i l (k + e)
+taken e named = named
+taken e (located bs) = located (drop (3 * e) bs)
 
--- how many bytes of the data name an entry
-abbrev pub spoken_of : Source → ℕ
-spoken_of (Block i l k) = 0
-spoken_of NamedS = 3
-spoken_of Located = 0
+-- a parameter as the code has it: where it lies in the store, and its logical
+unfoldable pub entry_of : rules.Named → Entry
+entry_of p = record { spot = spot_of gateway p.type p.logical p.parameter; logical = record { 0 = p.logical } }
 
-unfoldable pub entry_of : Named → Entry
-entry_of p =
+-- an entry that is found, as the code has it
+unfoldable pub entry_check : Check rules.Named → Check Entry
+entry_check c = do
+  p ← c
+  pass (entry_of p)
+
+-- n parameters from k up of logical l of the i-th type, which the build has
+pub record Run (i l k n : ℕ) : Type 0 where
+  pub type : i < 6
+  pub logical : l < logicals gateway i
+  pub last : k + n ≤ height (point i)
+
+-- what is known of a list of n entries: all parameters of a block are of the build
+abbrev pub Standing : Source → ℕ → Type 0
+Standing (block i l k) n = Run i l k n
+Standing named n = Unit {0}
+Standing (located bs) n = Unit {0}
+
+-- what is known of an entry that was found: it lies inside the store, and its logical is one of its type's
+pub record Sits (entry : Entry) : Type 0 where
+  pub spot : IsInside entry.spot
+  pub segment : (first segments ≤ entry.spot.row → entry.logical.0 < logicals gateway segments)
+
+-- three numbers that stand one behind the other
+abbrev pub tlp_at : List ℕ → ℕ → Tlp
+tlp_at d i =
     record {
-      row = first p.type + p.parameter;
-      begin = offset gateway p.type p.logical p.parameter;
-      len = len_at p.type p.parameter;
-      logical = p.logical;
+      point = record { 0 = get_or d i 0 };
+      logical = record { 0 = get_or d (i + 1) 0 };
+      parameter = record { 0 = get_or d (i + 2) 0 };
     }
 
-unfoldable pub next_of : Check Named → Next
-next_of (fault n p) = Fault n p
-next_of (pass p) = Found (entry_of p)
-
--- what is known where entry e is looked for: the data is a request's, and a block and a table have as many entries
-pub record Findable (src : Source) (e : ℕ) (d : List ℕ) (at : ℕ) (bs : List ℕ) : Type 0 where
-  pub short : length d ≤ 255
-  pub inside : at ≤ length d
-  pub in_block : (i l k : ℕ) → src ≡ Block i l k → Here gateway i l (k + e)
-  pub in_table : src ≡ Located → 3 * e + 3 ≤ length bs
+-- the fault of a number that names nothing
+abbrev pub fault_of : Places → Missing → Fault
+fault_of at NoPointType = record { refusal = refusals.NoPointType; place = at.point }
+fault_of at NoLogical = record { refusal = refusals.NoLogical; place = at.logical }
+fault_of at NoParameter = record { refusal = refusals.NoParameter; place = at.parameter }

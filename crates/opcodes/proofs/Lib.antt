@@ -1,6 +1,6 @@
-pub mod Carried
-pub mod Plans
-pub mod Spanned
-pub mod Stretched
 pub mod Moments
-pub mod Located
+pub mod Spans
+pub mod Stretch
+pub mod Told
+pub mod Plans
+pub mod Spare

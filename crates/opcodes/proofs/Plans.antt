@@ -1,111 +1,74 @@
--- What each opcode's plan comes to, under the plain facts that the code's tests leave.
+-- Each plan that begins with a block, by that block.
 -- Assumes nothing.
-use Prim.Native.Nat.{ℕ, ◌≤◌, ◌<◌}
+use Prim.Native.Nat.{ℕ, ◌+◌, ◌≤◌}
 use native.Mathlib.Omega.{arith}
-use mathlib.Core.Path.{◌≡◌, refl}
-use mathlib.Core.Bool.{Bool}
-use mathlib.Core.List.{List}
-use borrow.Author.Tests.{le-leb, lt-leb, eq-eqb, ne_eqb}
-use lib.ListN.{length, get_or}
-use Rattle.base.specs.Check.{Check, fault, pass, ◌>>=◌, test}
-use Rattle.base.proofs.Checks.{on_fault, failed}
-use Rattle.points.specs.Types.{gateway}
-use Rattle.store.specs.Store.{Write}
+use mathlib.Core.Path.{◌≡◌, refl, sym, ap, ◌∙◌}
+use mathlib.Core.List.{List, [], ◌∷◌, ◌++◌}
+use lib.Dec.{leb}
+use lib.ListN.{length, get_or, take, drop}
+use lib.Seq.{take-length, length-take-le}
+use Rattle.base.specs.Check.{Check, pass, ◌>>=◌, test}
+use Rattle.base.proofs.Checks.{then_then}
+use Rattle.points.specs.Types.{gateway, tables, point}
+use Rattle.points.proofs.Rows.{row_reads, row-writes}
+use Rattle.store.specs.Store.{values, span_of}
 use Rattle.rules.specs.Asked.{Held}
-use Rattle.rules.specs.Entries.{request}
-use Rattle.rules.specs.Deeds.{Piece, Deeds}
-use Rattle.rules.specs.Opcodes.{telling, keeping, counted, plan180, plan181}
-use Rattle.lists.specs.Walks.{source_at}
-use Rattle.lists.specs.declared.Source.TheVariants.{Named}
-use Rattle.reads.specs.Listed.{listed}
-use Rattle.opcodes.specs.Done.{done_of, space_by, store_by, Told, Kept}
-use Rattle.opcodes.specs.Walks.{read_done, read_space, Listable, whole, write_done, write_store, Storable, Ready, Set, held}
-use Rattle.opcodes.specs.declared.Done.{Done}
-use Rattle.opcodes.specs.declared.Done.TheVariants.{Fault}
+use Rattle.rules.specs.Deeds.{plain, held, told, shown, sizes}
+use Rattle.rules.specs.Entries.{request, block, located}
+use Rattle.opcodes.specs.Walks.{telling_all, keeping_all}
+use Rattle.rules.specs.Lists.{fitting, reading, writing}
+use Rattle.rules.specs.Opcodes.{telling, plan166, plan167, plan10, plan11}
+use Rattle.opcodes.proofs.Spare.{none_spare}
+use Rattle.opcodes.specs.Blocks.{Run, spanned, table_block, block_pieces}
 
--- ---- any plan
+then_pass : {A B : Type 0} (a : A) (f : A → Check B) → (pass a >>= f) ≡ f a
+unfolding ◌>>=◌
+then_pass a f = refl
 
-pub told_fault : (aloud : Bool) (s r : List ℕ) {n q : ℕ} (p : Check Deeds) → p ≡ fault n q → Told (Fault n q) aloud s r r p
-unfolding done_of space_by
-told_fault aloud s r p e = rw e (record { answer = refl; space = refl })
+-- ---- 167
 
-pub kept_fault : (s : List ℕ) {n q : ℕ} (p : Check Deeds) → p ≡ fault n q → Kept (Fault n q) s s p
-unfolding done_of store_by
-kept_fault s p e = rw e (record { answer = refl; store = refl })
+pub plan167_block : (L : ℕ) (h : Held) (d : List ℕ)
+    → plan167 gateway L h d ≡ (spanned d >>= λ run. test (leb (point run.index).reads L) 25 0 >>= λ _. test (leb (length d) 4) 21 4 >>= λ _. fitting (block_pieces run d)
+    >>= λ _. pass (telling h (block_pieces run d)))
+unfolding plan167 spanned block_pieces
+plan167_block L h d = simp (then_then, then_pass, none_spare)
 
-pub told_list : (aloud : Bool) (s r r' : List ℕ) (x : Done) (h : Held) (c : Check (List Piece)) (p : Check Deeds)
-    → p ≡ (c >>= λ ps. pass (telling h ps)) → x ≡ read_done c → r' ≡ read_space aloud s r c → Told x aloud s r r' p
-unfolding ◌>>=◌ done_of space_by read_done read_space
-told_list aloud s r r' x h (fault n q) p e ex er = rw e (record { answer = ex; space = er })
-told_list aloud s r r' x h (pass ps) p e ex er = rw e (record { answer = ex; space = er })
+module _ (run : Run) (d : List ℕ) (four : 4 ≤ length d) where
+  pub block_sizes : sizes (block_pieces run d) ≡ 4 + span_of run.index run.start run.count
+  unfolding block_pieces
+  block_sizes = omega (arith, length-take-le 4 d four)
 
-pub kept_list : (s s' : List ℕ) (x : Done) (h : Held) (c : Check (List Write)) (p : Check Deeds)
-    → p ≡ (c >>= λ ws. pass (keeping h ws)) → x ≡ write_done c → s' ≡ write_store s c → Kept x s s' p
-unfolding ◌>>=◌ done_of store_by write_done write_store
-kept_list s s' x h (fault n q) p e ex es = rw e (record { answer = ex; store = es })
-kept_list s s' x h (pass ws) p e ex es = rw e (record { answer = ex; store = es })
+  pub block_fitting : fitting (block_pieces run d) ≡ test (leb (4 + span_of run.index run.start run.count) 255) 28 0
+  unfolding fitting
+  block_fitting = rw block_sizes refl
 
--- ---- 180 and 181
+pub block_told : (s : List ℕ) (run : Run) (d : List ℕ) → length d ≡ 4
+    → told gateway s (block_pieces run d) ≡ d ++ values gateway s run.index run.logical run.start run.count
+unfolding told shown block_pieces
+block_told s run d four = ap (λ (v : List ℕ). v ++ values gateway s run.index run.logical run.start run.count) (ap (λ (n : ℕ). take n d) (sym four) ∙ take-length d)
 
-module _ (d : List ℕ) where
-  uncounted : length d < 1 → counted d ≡ fault 21 0
-  unfolding counted
-  uncounted h = failed _ _ _ (lt-leb _ _ h)
+-- ---- 166
 
-  none-counted : {A : Type 0} (x : Check A) → 1 ≤ length d → get_or d 0 0 ≡ 0 → (counted d >>= λ _. x) ≡ fault 30 0
-  unfolding counted ◌>>=◌ test
-  none-counted x h e = rw (le-leb _ _ h, eq-eqb _ 0 e) refl
+pub plan166_block : (L : ℕ) (h : Held) (d : List ℕ)
+    → plan166 gateway L h d ≡ (spanned d >>= λ run. test (leb (point run.index).writes L) 25 0
+    >>= λ _. keeping_all h (writing gateway (request L) h.store (block run.index run.logical run.start) run.count (drop 4 d) 4 []))
+unfolding plan166 spanned keeping_all
+plan166_block L h d = simp (then_then, then_pass)
 
-  some-counted : {A : Type 0} (x : Check A) → 1 ≤ length d → (get_or d 0 0 ≡ 0 → ⊥) → (counted d >>= λ _. x) ≡ x
-  unfolding counted ◌>>=◌ test
-  some-counted x h e = rw (le-leb _ _ h, ne_eqb _ 0 e) refl
+-- ---- 10 and 11
 
-module _ (L : ℕ) (aloud : Bool) (d s r : List ℕ) where
-  pub named-short : length d < 1 → (c : List ℕ) → Told (Fault 21 0) aloud s r r (plan180 gateway L (held s c) d)
-  unfolding plan180
-  named-short h c = told_fault aloud s r _ (on_fault _ (uncounted d h))
+-- what 10 tells before the first value: the three bytes that name the locations, and the table's revision
+pub plan10_table : (L : ℕ) (h : Held) (d : List ℕ)
+    → plan10 gateway L h d ≡ (table_block d >>= λ run. telling_all h (reading gateway (request L) (located (values gateway h.store run.index run.logical run.start run.count))
+    run.count (drop 3 d) 3 (held tables (get_or d 0 0) 0 1 ∷ plain (take 3 d) ∷ [])))
+unfolding plan10 table_block telling_all
+plan10_table L h d = simp (then_then, then_pass)
 
-  pub named_none : 1 ≤ length d → get_or d 0 0 ≡ 0 → (c : List ℕ) → Told (Fault 30 0) aloud s r r (plan180 gateway L (held s c) d)
-  unfolding plan180
-  named_none h e c = told_fault aloud s r _ (none-counted d _ h e)
+pub plan11_table : (L : ℕ) (h : Held) (d : List ℕ)
+    → plan11 gateway L h d ≡ (table_block d >>= λ run. keeping_all h (writing gateway (request L) h.store (located (values gateway h.store run.index run.logical run.start run.count))
+    run.count (drop 3 d) 3 []))
+unfolding plan11 table_block keeping_all
+plan11_table L h d = simp (then_then, then_pass)
 
-  pub named-listable : Ready d s r → 1 ≤ length d → Listable Named d d s r
-  named-listable a h =
-      record {
-        readable = record { start = record { begun = h; no_block = λ i l k e. let z : ◌≡◌ {A = ℕ} 0 1 = cc in omega arith }; short = a.short; in_table = λ e. let z : ◌≡◌ {A = ℕ} 0 1 = cc in absurd (omega arith) };
-        openable = record { start = record { begun = h; no_block = λ i l k e. let z : ◌≡◌ {A = ℕ} 0 1 = cc in omega arith }; whole = a.whole_store; room = a.room; table = λ e. let z : ◌≡◌ {A = ℕ} 0 1 = cc in absurd (omega arith) };
-      }
-
-  pub named-told : 1 ≤ length d → (get_or d 0 0 ≡ 0 → ⊥) → (x : Done) (r' : List ℕ)
-      → (x ≡ read_done (listed (request L) Named d d)) × (r' ≡ read_space aloud s r (listed (request L) Named d d))
-      → (c : List ℕ) → Told x aloud s r r' (plan180 gateway L (held s c) d)
-  unfolding plan180 listed source_at
-  named-told h e x r' w c = told_list aloud s r r' x (held s c) (listed (request L) Named d d) _ (some-counted d _ h e) w.0 w.1
-
-module _ (L : ℕ) (d s : List ℕ) where
-  pub namely_short : length d < 1 → (c : List ℕ) → Kept (Fault 21 0) s s (plan181 gateway L (held s c) d)
-  unfolding plan181
-  namely_short h c = kept_fault s _ (on_fault _ (uncounted d h))
-
-  pub namely_none : 1 ≤ length d → get_or d 0 0 ≡ 0 → (c : List ℕ) → Kept (Fault 30 0) s s (plan181 gateway L (held s c) d)
-  unfolding plan181
-  namely_none h e c = kept_fault s _ (none-counted d _ h e)
-
-  -- n is the count that the code read
-  pub namely_storable : (n : ℕ) → n ≡ get_or d 0 0 → Set d s → 1 ≤ length d → Storable Named n 1 d d s
-  namely_storable n en a h =
-      record {
-        short = a.short;
-        begun = h;
-        whole_store = a.whole_store;
-        in_block = λ i l k e. let z : ◌≡◌ {A = ℕ} 0 1 = cc in absurd (omega arith);
-        in_table = λ e. let z : ◌≡◌ {A = ℕ} 0 1 = cc in absurd (omega arith);
-      }
-
-  pub namely_kept : (n : ℕ) → n ≡ get_or d 0 0 → 1 ≤ length d → (get_or d 0 0 ≡ 0 → ⊥) → (x : Done) (s' : List ℕ)
-      → (x ≡ write_done (whole L Named n 1 d d s)) × (s' ≡ write_store s (whole L Named n 1 d d s))
-      → (c : List ℕ) → Kept x s s' (plan181 gateway L (held s c) d)
-  unfolding plan181 whole source_at
-  namely_kept n en h e x s' w c =
-      let w' : (x ≡ write_done (whole L Named (get_or d 0 0) 1 d d s)) × (s' ≡ write_store s (whole L Named (get_or d 0 0) 1 d d s)) = rw en at w in
-      kept_list s s' x (held s c) (whole L Named (get_or d 0 0) 1 d d s) _ (some-counted d _ h e) w'.0 w'.1
+-- the levels of a row are its type's
+pub ruleset row_levels = (row_reads, row-writes)

@@ -1,5 +1,5 @@
 pub mod Done
+pub mod Blocks
+pub mod Moments
 pub mod Walks
-pub mod Spans
-pub mod Clocks
-pub mod Located
+pub mod Opcodes

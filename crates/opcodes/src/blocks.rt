@@ -1,123 +1,88 @@
-// 167 and 166: type, logical, count, start: a block of parameters of one logical, whose values 166 carries.
-ghost use Rattle.std.specs.Prelude.{ℕ, ◌≤◌, ◌≡◌, List, length};
+//! 167 and 166: type, logical, count, start: a block of parameters of one logical, whose values 166 carries.
+
+ghost use Rattle.std.specs.Prelude.{◌≡◌, ◌≤◌, ℕ, List, length, IfOk};
+ghost use Rattle.faults.specs.Faults.{check_of};
 ghost use Rattle.points.specs.Types.{gateway};
-ghost use Rattle.rules.specs.Opcodes.{spans, plan166, plan167};
-ghost use Rattle.opcodes.specs.Done.{Told, Kept};
-ghost use Rattle.opcodes.specs.Walks.{held, Ready, Set};
-ghost use Rattle.opcodes.specs.Spans.{spanned_of, Run, stretched};
+ghost use Rattle.rules.specs.Opcodes.{plan166, plan167};
+ghost use Rattle.opcodes.specs.Done.{held, said, done, space_by, store_by};
+ghost use Rattle.opcodes.specs.Blocks.{spanned, block_check};
 
-use crate::{Done, walks};
-use lists::Source;
+use crate::held::values_in;
+use crate::{Request, walks};
+use faults::{Fault, Refusal, require};
+use frame::Reply;
+use lists::Block;
 use points::{Count, Logical, Parameter, PointType};
+use store::Store;
 
-// A block: the type's index, the logical, the first parameter, the count. Else the fault.
-#[derive(Clone, Copy)]
-pub enum Block {
-    Of(usize, Logical, Parameter, Count),
-    Fault(u8, u8),
-}
-
-// The third byte is the count and the fourth the start.
-fn span(d: &[u8]) -> Block
-    requires { length d.now ≤ 255 }
-    ensures { result ≡ spanned_of d.now (spans gateway d.now) }
+/// The block that the data name. The third byte is the count and the fourth the start.
+#[tactic(auto, unfolding(crate::specs::Blocks::spanned, rules::specs::Opcodes::spans, points::specs::There::there, base::specs::Check::checks), using(points::proofs::Cases::no_type, points::proofs::Cases::of_type, crate::proofs::Spans::some_height, crate::proofs::Spans::last_end))]
+fn span(request: &Request) -> Result<Block, Fault>
+    ensures is { block_check result ≡ spanned request.now.bytes.now }
+    ensures some { IfOk result (λ block. 1 ≤ block.count.0) }
+    ensures four { IfOk result (λ block. 4 ≤ length request.now.bytes.now) }
 {
-    if d.len() < 4 {
-        return Block::Fault(21, d.len() as u8);
-    }
-    let i = points::index_of(PointType(d[0]));
-    if 6 <= i {
-        return Block::Fault(22, 0);
-    }
-    if points::logicals_of(i) <= d[1] {
-        return Block::Fault(23, 1);
-    }
-    let count = base::wide(d[2]);
-    if count == 0 {
-        return Block::Fault(30, 2);
-    }
-    let height = base::wide(points::height_of(i));
-    if height < base::wide(d[3]) + count {
-        return Block::Fault(24, 3);
-    }
-    Block::Of(i, Logical(d[1]), Parameter(d[3]), Count(d[2]))
+    let bytes = request.bytes;
+    require(4 <= bytes.len(), Refusal::Length, bytes.len() as u8)?;
+    let index = points::index_of(PointType(bytes[0])).ok_or(Fault {
+        refusal: Refusal::NoPointType,
+        place: 0,
+    })?;
+    let logicals = points::logicals_of(index);
+    require(bytes[1] < logicals, Refusal::NoLogical, 1)?;
+    require(bytes[2] != 0, Refusal::CountZero, 2)?;
+    let end = bytes[3] as usize + bytes[2] as usize;
+    let height = points::height_of(index) as usize;
+    require(end <= height, Refusal::NoParameter, 3)?;
+    Ok(Block {
+        index,
+        logical: Logical(bytes[1]),
+        start: Parameter(bytes[3]),
+        count: Count(bytes[2]),
+    })
 }
 
-// Where a block lies in the store: its first row, its first byte, how many bytes it has.
-#[derive(Clone, Copy)]
-pub struct Stretch {
-    pub row: usize,
-    pub begin: usize,
-    pub size: usize,
-}
-
-fn stretch_of(i: usize, l: Logical, start: Parameter, count: Count) -> Stretch
-    requires { Run i l.0 start.0 count.0 }
-    ensures { result ≡ stretched i l.0 start.0 count.0 }
+/// Opcode 167: the four bytes that name the block, and what it holds, copied as one stretch and not one parameter at a time.
+#[tactic(auto, unfolding(base::specs::Check::checks), using(crate::proofs::Plans::plan167_block, crate::proofs::Plans::block_sizes, crate::proofs::Plans::block_fitting, crate::proofs::Plans::block_told, crate::proofs::Told::two_told, crate::proofs::Plans::row_levels))]
+pub fn read(
+    request: &Request,
+    store: &Store,
+    aloud: bool,
+    reply: &mut Reply,
+) -> Result<usize, Fault>
+    ensures answer { (c : List ℕ) → check_of result ≡ said (plan167 gateway request.now.level (held store.now c) request.now.bytes.now) }
+    ensures space { (c : List ℕ) → reply.new ≡ space_by aloud store.now reply.old (plan167 gateway request.now.level (held store.now c) request.now.bytes.now) }
 {
-    let k = base::wide(start.0);
-    let n = base::wide(count.0);
-    let first = points::spot_at(i, l.0, k);
-    let last = points::spot_at(i, l.0, k + n - 1);
-    Stretch {
-        row: first.row,
-        begin: first.begin,
-        size: last.begin + last.len - first.begin,
+    let block = span(request)?;
+    let spot = points::spot_at(block.index, block.logical, block.start);
+    require(
+        points::read_level_at(spot.row) <= request.level,
+        Refusal::LevelTooLow,
+        0,
+    )?;
+    require(request.bytes.len() <= 4, Refusal::Length, 4)?;
+    let values = values_in(store, block);
+    let size = 4 + values.len();
+    require(size <= 255, Refusal::ReplyTooLong, 0)?;
+    if aloud {
+        store::tell(reply, 6, request.bytes);
+        store::tell(reply, 10, values);
     }
+    Ok(size)
 }
 
-pub fn read(level: u8, d: &[u8], store: &[u8], aloud: bool, reply: &mut [u8]) -> Done
-    requires { Ready d.now store.now reply.old }
-    ensures { (c : List ℕ) → Told result aloud store.now reply.old reply.new (plan167 gateway level (held store.now c) d.now) }
+/// Opcode 166: the values of the block, which the data carry behind the four bytes that name it, stored.
+#[tactic(auto, unfolding(base::specs::Check::checks), using(crate::proofs::Plans::plan166_block, crate::proofs::Plans::row_levels))]
+pub fn write(request: &Request, store: &mut Store) -> Result<(), Fault>
+    ensures answer { (c : List ℕ) → check_of result ≡ done (plan166 gateway request.now.level (held store.old c) request.now.bytes.now) }
+    ensures store { (c : List ℕ) → store.new ≡ store_by store.old (plan166 gateway request.now.level (held store.old c) request.now.bytes.now) }
 {
-    let block = span(d);
-    match block {
-        Block::Fault(number, place) => Done::Fault(number, place),
-        Block::Of(i, l, start, count) => {
-            let stretch = stretch_of(i, l, start, count);
-            if level < points::read_level_at(stretch.row) {
-                return Done::Fault(25, 0);
-            }
-            if 4 < d.len() {
-                return Done::Fault(21, 4);
-            }
-            let size = stretch.size;
-            let too_long = 251 < size;
-            if too_long {
-                return Done::Fault(28, 0);
-            }
-            if aloud {
-                let begin = stretch.begin;
-                base::copy(reply, 6, d, 0, 4);
-                base::copy(reply, 10, store, begin, size);
-                return Done::Said(4 + size);
-            }
-            Done::Said(4 + size)
-        }
-    }
-}
-
-pub fn write(level: u8, d: &[u8], store: &mut [u8]) -> Done
-    requires { Set d.now store.old }
-    ensures { (c : List ℕ) → Kept result store.old store.new (plan166 gateway level (held store.old c) d.now) }
-{
-    let block = span(d);
-    match block {
-        Block::Fault(number, place) => Done::Fault(number, place),
-        Block::Of(i, l, start, count) => {
-            let stretch = stretch_of(i, l, start, count);
-            if level < points::write_level_at(stretch.row) {
-                return Done::Fault(25, 0);
-            }
-            walks::write(
-                Source::Block(i, l.0, start.0),
-                base::wide(count.0),
-                4,
-                level,
-                d,
-                d,
-                store,
-            )
-        }
-    }
+    let block = span(request)?;
+    let spot = points::spot_at(block.index, block.logical, block.start);
+    require(
+        points::write_level_at(spot.row) <= request.level,
+        Refusal::LevelTooLow,
+        0,
+    )?;
+    walks::write(&block, request, 4, store)
 }

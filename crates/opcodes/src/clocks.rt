@@ -1,93 +1,64 @@
-// Opcodes 7 and 8: the clock is read, and set.
-ghost use Rattle.std.specs.Prelude.{◌≡◌, ◌++◌, ◌∷◌, [], length};
-ghost use Rattle.base.specs.Lists.{put};
-ghost use Rattle.clock.specs.Moments.{clock_of, weekday_at};
-ghost use Rattle.rules.specs.Opcodes.{plan8};
-ghost use Rattle.opcodes.specs.Done.{done_of, clock_by};
-ghost use Rattle.opcodes.specs.Clocks.{stray_at, Tellable, Told};
+//! Opcodes 7 and 8: the clock is read, and set.
 
-use crate::Done;
+ghost use Rattle.std.specs.Prelude.{◌≡◌, ◌≤◌, ℕ, List, length};
+ghost use Rattle.faults.specs.Faults.{check_of};
+ghost use Rattle.rules.specs.Opcodes.{plan7, plan8};
+ghost use Rattle.opcodes.specs.Moments.{moment_check};
+ghost use Rattle.opcodes.specs.Done.{held, said, done, space_by, clock_by};
+
+use crate::Request;
 use clock::Clock;
+use faults::{Fault, Refusal, require};
+use frame::Reply;
 
-// The clock's seven bytes and the weekday, from place 6 of the reply on.
-fn tell_moment(clock: &[u8], reply: &mut [u8])
-    requires { Tellable clock.now reply.old }
-    ensures { reply.new ≡ put reply.old 6 (clock.now ++ (weekday_at (clock_of clock.now) ∷ [])) }
+/// Opcode 7: the clock's seven bytes and the weekday. The request has no data.
+#[tactic(auto, unfolding(rules::specs::Opcodes::plan7, rules::specs::Lists::ends, rules::specs::Deeds::told, rules::specs::Deeds::shown, base::specs::Check::checks), using(crate::proofs::Told::two_told))]
+pub fn read(
+    request: &Request,
+    clock: &[u8; 7],
+    aloud: bool,
+    reply: &mut Reply,
+) -> Result<usize, Fault>
+    ensures answer { (s : List ℕ) → check_of result ≡ said (plan7 (held s clock.now) request.now.bytes.now) }
+    ensures space { (s : List ℕ) → reply.new ≡ space_by aloud s reply.old (plan7 (held s clock.now) request.now.bytes.now) }
 {
-    let weekday = Clock::of_bytes(clock).weekday();
-    base::copy(reply, 6, clock, 0, 7);
-    reply[13] = weekday;
-}
-
-// Opcode 7. The request has no data.
-pub fn read(d: &[u8], clock: &[u8], aloud: bool, reply: &mut [u8]) -> Done
-    requires { Tellable clock.now reply.old }
-    ensures { Told aloud d.now clock.now reply.old reply.new result }
-{
-    if 0 < d.len() {
-        return Done::Fault(21, 0);
-    }
+    require(request.bytes.is_empty(), Refusal::Length, 0)?;
     if aloud {
-        tell_moment(clock, reply);
-        return Done::Said(8);
+        let weekday = Clock::of_bytes(clock).weekday();
+        store::tell(reply, 6, clock);
+        store::tell(reply, 13, &[weekday]);
     }
-    Done::Said(8)
+    Ok(8)
 }
 
-// The place of the first number of a moment that is out of its range; 7 where none is. The day comes last, since how many days there
-// are is known only of a month and a year that are in theirs.
-fn stray(c: Clock) -> u8
-    ensures { result ≡ stray_at c }
+/// The numbers of a moment, each in its range. The day comes last, since how many days there are is known only of a month and a year that
+/// are in theirs.
+#[tactic(auto, unfolding(crate::specs::Moments::moment_check, base::specs::Check::checks))]
+fn check_moment(moment: Clock) -> Result<(), Fault>
+    ensures { check_of result ≡ moment_check moment }
 {
-    if 60 <= c.second {
-        return 0;
-    }
-    if 60 <= c.minute {
-        return 1;
-    }
-    if 24 <= c.hour {
-        return 2;
-    }
-    if c.month < 1 {
-        return 4;
-    }
-    if 12 < c.month {
-        return 4;
-    }
-    if c.year < Clock::FIRST_YEAR {
-        return 5;
-    }
-    if Clock::LAST_YEAR < c.year {
-        return 5;
-    }
-    if c.day < 1 {
-        return 3;
-    }
-    let n = Clock::days_of_month(c.year, c.month);
-    if n < c.day {
-        return 3;
-    }
-    7
+    require(moment.second < 60, Refusal::InvalidDate, 0)?;
+    require(moment.minute < 60, Refusal::InvalidDate, 1)?;
+    require(moment.hour < 24, Refusal::InvalidDate, 2)?;
+    require((1..=12).contains(&moment.month), Refusal::InvalidDate, 4)?;
+    let years = Clock::FIRST_YEAR..=Clock::LAST_YEAR;
+    require(years.contains(&moment.year), Refusal::InvalidDate, 5)?;
+    let days = Clock::days_of_month(moment.year, moment.month);
+    let is_day = 1 <= moment.day && moment.day <= days;
+    require(is_day, Refusal::InvalidDate, 3)
 }
 
-// Opcode 8: second, minute, hour, day, month, year in two bytes.
-pub fn set(level: u8, d: &[u8], clock: &mut [u8]) -> Done
-    requires { length clock.old ≡ 7 }
-    ensures { (result ≡ done_of (plan8 level d.now)) × (clock.new ≡ clock_by clock.old (plan8 level d.now)) }
+/// Opcode 8: second, minute, hour, day, month, and the year in two bytes.
+#[tactic(auto, unfolding(base::specs::Check::checks), using(crate::proofs::Moments::plan8_ranged))]
+pub fn set(request: &Request, clock: &mut [u8; 7]) -> Result<(), Fault>
+    ensures answer { check_of result ≡ done (plan8 request.now.level request.now.bytes.now) }
+    ensures clock { clock.new ≡ clock_by clock.old (plan8 request.now.level request.now.bytes.now) }
 {
-    if d.len() < 7 {
-        return Done::Fault(21, d.len() as u8);
-    }
-    if level < 2 {
-        return Done::Fault(25, 0);
-    }
-    let place = stray(Clock::of_bytes(d));
-    if place < 7 {
-        return Done::Fault(31, place);
-    }
-    if 7 < d.len() {
-        return Done::Fault(21, 7);
-    }
-    base::copy(clock, 0, d, 0, 7);
-    Done::Said(0)
+    let length = request.bytes.len();
+    require(7 <= length, Refusal::Length, length as u8)?;
+    require(2 <= request.level, Refusal::LevelTooLow, 0)?;
+    check_moment(Clock::of_bytes(request.bytes))?;
+    require(length <= 7, Refusal::Length, 7)?;
+    clock.copy_from_slice(request.bytes);
+    Ok(())
 }

@@ -1,36 +1,53 @@
-// 180 and 181: a count, then three numbers for each parameter, which with 181 its value follows.
-ghost use Rattle.std.specs.Prelude.{ℕ, List};
+//! 180 and 181: a count, then three numbers for each parameter, which with 181 its value follows.
+
+ghost use Rattle.std.specs.Prelude.{◌≡◌, ◌≤◌, ℕ, List, length, IfOk};
+ghost use Rattle.faults.specs.Faults.{check_of};
 ghost use Rattle.points.specs.Types.{gateway};
 ghost use Rattle.rules.specs.Opcodes.{plan180, plan181};
-ghost use Rattle.opcodes.specs.Done.{Told, Kept};
-ghost use Rattle.opcodes.specs.Walks.{held, Ready, Set};
+ghost use Rattle.opcodes.specs.Done.{held, said, done, space_by, store_by};
+ghost use Rattle.opcodes.specs.Walks.{named_list};
 
-use crate::{Done, walks};
-use lists::Source;
+use crate::{Request, walks};
+use faults::{Fault, Refusal, require};
+use frame::Reply;
+use lists::Named;
+use points::Count;
+use store::Store;
 
-pub fn read(level: u8, d: &[u8], store: &[u8], aloud: bool, reply: &mut [u8]) -> Done
-    requires { Ready d.now store.now reply.old }
-    ensures { (c : List ℕ) → Told result aloud store.now reply.old reply.new (plan180 gateway level (held store.now c) d.now) }
+/// The list that the data name: how many parameters.
+#[tactic(auto, unfolding(crate::specs::Walks::named_list, rules::specs::Opcodes::counted, base::specs::Check::checks))]
+fn count(request: &Request) -> Result<Named, Fault>
+    ensures is { check_of result ≡ named_list request.now.bytes.now }
+    ensures some { IfOk result (λ list. 1 ≤ length request.now.bytes.now) }
 {
-    if d.len() < 1 {
-        return Done::Fault(21, 0);
-    }
-    if d[0] == 0 {
-        return Done::Fault(30, 0);
-    }
-    walks::read(Source::Named, level, d, d, store, aloud, reply)
+    require(1 <= request.bytes.len(), Refusal::Length, 0)?;
+    require(request.bytes[0] != 0, Refusal::CountZero, 0)?;
+    Ok(Named {
+        count: Count(request.bytes[0]),
+    })
 }
 
-pub fn write(level: u8, d: &[u8], store: &mut [u8]) -> Done
-    requires { Set d.now store.old }
-    ensures { (c : List ℕ) → Kept result store.old store.new (plan181 gateway level (held store.old c) d.now) }
+/// Opcode 180: the values of the parameters, each behind the three numbers that name it.
+#[tactic(auto, unfolding(rules::specs::Opcodes::plan180, crate::specs::Walks::named_list, crate::specs::Walks::telling_all, base::specs::Check::checks))]
+pub fn read(
+    request: &Request,
+    store: &Store,
+    aloud: bool,
+    reply: &mut Reply,
+) -> Result<usize, Fault>
+    ensures answer { (c : List ℕ) → check_of result ≡ said (plan180 gateway request.now.level (held store.now c) request.now.bytes.now) }
+    ensures space { (c : List ℕ) → reply.new ≡ space_by aloud store.now reply.old (plan180 gateway request.now.level (held store.now c) request.now.bytes.now) }
 {
-    if d.len() < 1 {
-        return Done::Fault(21, 0);
-    }
-    if d[0] == 0 {
-        return Done::Fault(30, 0);
-    }
-    let count = base::wide(d[0]);
-    walks::write(Source::Named, count, 1, level, d, d, store)
+    let entries = count(request)?;
+    walks::read(&entries, request, 1, store, aloud, reply)
+}
+
+/// Opcode 181: the parameters' values, which the data carry, stored.
+#[tactic(auto, unfolding(rules::specs::Opcodes::plan181, crate::specs::Walks::named_list, crate::specs::Walks::keeping_all, base::specs::Check::checks))]
+pub fn write(request: &Request, store: &mut Store) -> Result<(), Fault>
+    ensures answer { (c : List ℕ) → check_of result ≡ done (plan181 gateway request.now.level (held store.old c) request.now.bytes.now) }
+    ensures store { (c : List ℕ) → store.new ≡ store_by store.old (plan181 gateway request.now.level (held store.old c) request.now.bytes.now) }
+{
+    let entries = count(request)?;
+    walks::write(&entries, request, 1, store)
 }

@@ -1,65 +1,57 @@
-// A list of parameters, read or written: first every entry is checked, then all are told or stored.
-ghost use Rattle.std.specs.Prelude.{◌≡◌};
-ghost use Rattle.rules.specs.Entries.{request};
-ghost use Rattle.reads.specs.Listed.{listed};
-ghost use Rattle.opcodes.specs.Walks.{read_done, read_space, Listable, write_done, write_store, whole, Storable};
+//! A list of parameters, read or written: first every entry is checked, then all are told or stored.
 
-use crate::Done;
-use lists::{Caller, Checked, Source};
+ghost use Rattle.std.specs.Prelude.{◌≡◌, ◌≤◌, [], ℕ, List, length, drop};
+ghost use Rattle.faults.specs.Faults.{check_of};
+ghost use Rattle.points.specs.Types.{gateway};
+ghost use Rattle.rules.specs.Entries.{request as asked};
+ghost use Rattle.rules.specs.Lists.{reading, writing};
+ghost use Rattle.opcodes.specs.Done.{held, said, done, space_by, store_by};
+ghost use Rattle.opcodes.specs.Walks.{telling_all, keeping_all};
 
-pub fn read(
-    src: Source,
-    level: u8,
-    d: &[u8],
-    locations: &[u8],
-    store: &[u8],
+use crate::Request;
+use faults::Fault;
+use frame::Reply;
+use lists::Entries;
+use reads::Readable;
+use store::Store;
+
+/// The values of the list, told from place 6 of the reply on unless the request is a broadcast, and how many data bytes that makes.
+#[tactic(auto, unfolding(crate::specs::Walks::telling_all, base::specs::Check::checks))]
+pub fn read<E: Readable>(
+    entries: &E,
+    request: &Request,
+    from: usize,
+    store: &Store,
     aloud: bool,
-    reply: &mut [u8],
-) -> Done
-    requires { Listable src d.now locations.now store.now reply.old }
-    ensures { (result ≡ read_done (listed (request level) src d.now locations.now))
-        × (reply.new ≡ read_space aloud store.now reply.old (listed (request level) src d.now locations.now)) }
+    reply: &mut Reply,
+) -> Result<usize, Fault>
+    requires within { from ≤ length request.now.bytes.now }
+    requires ready { E.ready entries.now request.now.bytes.now }
+    ensures answer { (c : List ℕ) → check_of result ≡ said (telling_all (held store.now c) (reading gateway (asked request.now.level) (E.source entries.now) (E.count entries.now) (drop from request.now.bytes.now) from (E.opening entries.now request.now.bytes.now))) }
+    ensures space { (c : List ℕ) → reply.new ≡ space_by aloud store.now reply.old (telling_all (held store.now c) (reading gateway (asked request.now.level) (E.source entries.now) (E.count entries.now) (drop from request.now.bytes.now) from (E.opening entries.now request.now.bytes.now))) }
 {
-    let who = Caller {
-        level,
-        system: false,
-    };
-    let checked = reads::check(src, who, d, locations);
-    match checked {
-        Checked::Fault(number, place) => Done::Fault(number, place),
-        Checked::Pass(size) => {
-            if aloud {
-                reads::tell(src, who, d, locations, store, reply);
-                return Done::Said(size);
-            }
-            Done::Said(size)
-        }
+    let who = request.caller();
+    let size = reads::check(entries, who, request.bytes, from)?;
+    if aloud {
+        reads::tell(entries, who, request.bytes, from, store, reply);
     }
+    Ok(size)
 }
 
-pub fn write(
-    src: Source,
-    count: usize,
+/// The values that the data carry, stored if each may be.
+#[tactic(auto, unfolding(crate::specs::Walks::keeping_all, base::specs::Check::checks))]
+pub fn write<E: Entries>(
+    entries: &E,
+    request: &Request,
     from: usize,
-    level: u8,
-    d: &[u8],
-    locations: &[u8],
-    store: &mut [u8],
-) -> Done
-    requires { Storable src count from d.now locations.now store.old }
-    ensures { (result ≡ write_done (whole level src count from d.now locations.now store.old))
-        × (store.new ≡ write_store store.old (whole level src count from d.now locations.now store.old)) }
+    store: &mut Store,
+) -> Result<(), Fault>
+    requires within { from ≤ length request.now.bytes.now }
+    ensures answer { (c : List ℕ) → check_of result ≡ done (keeping_all (held store.old c) (writing gateway (asked request.now.level) store.old (E.source entries.now) (E.count entries.now) (drop from request.now.bytes.now) from [])) }
+    ensures store { (c : List ℕ) → store.new ≡ store_by store.old (keeping_all (held store.old c) (writing gateway (asked request.now.level) store.old (E.source entries.now) (E.count entries.now) (drop from request.now.bytes.now) from [])) }
 {
-    let who = Caller {
-        level,
-        system: false,
-    };
-    let checked = writes::check(src, count, from, who, d, locations, &store[..]);
-    match checked {
-        Checked::Fault(number, place) => Done::Fault(number, place),
-        Checked::Pass(_) => {
-            writes::keep(src, count, from, who, d, locations, store);
-            Done::Said(0)
-        }
-    }
+    let who = request.caller();
+    writes::check(entries, who, request.bytes, from, store)?;
+    writes::keep(entries, who, request.bytes, from, store);
+    Ok(())
 }

@@ -1,6 +1,6 @@
 -- A row's number: the rows of all types in one list, each type's from its first on; so each column by row is that of type and parameter.
 -- Assumes nothing.
-use mathlib.Core.Path.{◌≡◌, refl, sym, ap, ap₂, ◌∙◌}
+use mathlib.Core.Path.{◌≡◌, refl, sym, ap, ◌∙◌}
 use mathlib.Core.List.{List, [], ◌∷◌, map}
 use mathlib.Core.Bool.{Bool, true, false}
 use Prim.Native.Nat.{ℕ, zero, suc, ◌+◌, ◌≤◌, ◌<◌, zero-le}
@@ -15,21 +15,14 @@ use Rattle.base.proofs.Sums.{inside}
 use Rattle.base.proofs.Joined.{joined_at}
 use Rattle.points.specs.Row.{Row, no_row}
 use Rattle.points.specs.Types.{segments, Point, points, no_point, point, height, row, Build, counts, logicals}
-use Rattle.points.specs.Place.{lens, first, within, within_of, len_at, row_len}
-use Rattle.points.specs.Columns.{rows_of, row_at, starts, edges, reads_of, writes_of, read_levels, write_levels}
+use Rattle.points.specs.Place.{lens, first, within, starts_of, offsets, len_at, row_len}
+use Rattle.points.specs.Columns.{rows_of, row_at, starts, reads_of, writes_of, read_levels, write_levels}
 
 -- where the k-th of a run of lengths begins: the sum of those before it
 pub starts-at : (xs : List ℕ) (a k : ℕ) → k < length xs → get_or (starts a xs) k 0 ≡ a + sum (take k xs)
 starts-at [] a k h = absurd (not-suc-le-zero h)
 starts-at (x ∷ xs) a zero h = sym (add-zero a)
 starts-at (x ∷ xs) a (suc k) h = starts-at xs (a + x) k (le_of_suc-le-suc h) ∙ add_assoc a x (sum (take k xs))
-
--- the same where the last of them ends too
-edges_at : (xs : List ℕ) (a k : ℕ) → k ≤ length xs → get_or (edges a xs) k 0 ≡ a + sum (take k xs)
-edges_at [] a zero h = sym (add-zero a)
-edges_at [] a (suc k) h = absurd (not-suc-le-zero h)
-edges_at (x ∷ xs) a zero h = sym (add-zero a)
-edges_at (x ∷ xs) a (suc k) h = edges_at xs (a + x) k (le_of_suc-le-suc h) ∙ add_assoc a x (sum (take k xs))
 
 -- the rows of type 124 are the last
 pub first_segment : first segments ≡ 161
@@ -67,37 +60,18 @@ module _ (column : Point → List ℕ) (none : column no_point ≡ []) (long : (
       let e : get_or (map column points) i [] ≡ column (get_or points i no_point) = rw (← none) (get_or-map column points i no_point) in
       rw (← lengths points) (joined_at 0 (map column points) i k (rw (e, long (get_or points i no_point)) h)) ∙ ap (λ (l : List ℕ). get_or l k 0) e
 
-length-edges : (xs : List ℕ) (a : ℕ) → length (edges a xs) ≡ suc (length xs)
-length-edges [] a = refl
-length-edges (x ∷ xs) a = ap suc (length-edges xs (a + x))
+length-starts : (a : ℕ) (xs : List ℕ) → length (starts a xs) ≡ length xs
+length-starts a [] = refl
+length-starts a (x ∷ xs) = ap suc (length-starts (a + x) xs)
 
--- a type's table of beginnings, j being the type's index as the code knows it
-pub within-at : (i j k : ℕ) → i ≡ j → k < height (point i)
-    → record { begin = get_or (edges 0 (lens (point j))) k 0; end = get_or (edges 0 (lens (point j))) (k + 1) 0 } ≡ within_of i k
-unfolding within
-within-at i j k e h =
-    let xs : List ℕ = lens (point j) in
-    let n : length xs ≡ height (point j) = length-map (point j).rows row_len in
-    let m : k < height (point j) = rw (← e) h in
-    rw e
-    (ap₂ (λ (a b : ℕ). record { begin = a; end = b })
-    (edges_at xs 0 k (omega arith) ∙ zero-add (sum (take k xs)))
-    (edges_at xs 0 (k + 1) (omega arith) ∙ zero-add (sum (take (k + 1) xs))))
-
-pub in_edges : (i j k : ℕ) → i ≡ j → k < height (point i) → k + 1 < length (edges 0 (lens (point j)))
-in_edges i j k e h =
-    let m : k < height (point j) = rw (← e) h in
-    omega (arith, length-edges (lens (point j)) 0, length-map (point j).rows row_len)
-
--- what is none of the first five is the sixth
-pub sixth : (i : ℕ) → i < 6 → ((((Unit {0} × (i ≡ 0 → ⊥)) × (i ≡ 1 → ⊥)) × (i ≡ 2 → ⊥)) × (i ≡ 3 → ⊥)) × (i ≡ 4 → ⊥) → i ≡ 5
-sixth zero h q = absurd (q.0.0.0.0.1 refl)
-sixth (suc zero) h q = absurd (q.0.0.0.1 refl)
-sixth (suc (suc zero)) h q = absurd (q.0.0.1 refl)
-sixth (suc (suc (suc zero))) h q = absurd (q.0.1 refl)
-sixth (suc (suc (suc (suc zero)))) h q = absurd (q.1 refl)
-sixth (suc (suc (suc (suc (suc zero))))) h q = refl
-sixth (suc (suc (suc (suc (suc (suc i)))))) h q = absurd (omega arith)
+-- where a parameter begins within its logical
+pub offset_row : (i k : ℕ) → k < height (point i) → get_or offsets (first i + k) 0 ≡ within i k
+unfolding offsets within
+offset_row i k h =
+    let n : length (lens (point i)) ≡ height (point i) = length-map (point i).rows row_len in
+    column_at starts_of refl (λ p. length-starts 0 (lens p) ∙ length-map p.rows row_len) i k h
+    ∙ starts-at (lens (point i)) 0 k (rw n h)
+    ∙ zero-add (sum (take k (lens (point i))))
 
 pub row_reads : (i k : ℕ) → k < height (point i) → get_or read_levels (first i + k) 0 ≡ (point i).reads
 unfolding read_levels

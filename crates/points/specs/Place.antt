@@ -1,13 +1,13 @@
 -- Where a parameter lies in the store: types ascending, logicals ascending, parameters ascending, unpadded.
 -- Assumes nothing.
-use Rattle.std.specs.Prelude.{ℕ, ◌+◌, ◌*◌, ◌<◌, Bool, true, false, List, map, get_or, take, ltb}
-use Rattle.base.specs.Lists.{sum, zipped}
+use Rattle.std.specs.Prelude.{ℕ, ◌+◌, ◌*◌, ◌<◌, ◌≤◌, ◌≡◌, List, map, get_or, take, ltb, Result, Ok, Err, if◌then◌else◌}
+use Rattle.base.specs.Lists.{sum, joined, zipped}
 use Rattle.points.specs.Row.{Row}
 use Rattle.points.specs.Types.{Point, points, point, height, index_of, Build, counts, logicals, gateway, row}
 use Rattle.points.specs.declared.Spot.{Spot}
-use Rattle.points.specs.declared.Within.{Within}
-use Rattle.points.specs.declared.Place.{Place}
-use Rattle.points.specs.declared.Place.TheVariants.{At, NoType, NoLogical, NoParameter}
+use Rattle.points.specs.declared.Missing.{Missing}
+use Rattle.points.specs.declared.Missing.TheVariants.{NoPointType, NoLogical, NoParameter}
+use Rattle.points.specs.Columns.{row_at, starts}
 
 abbrev pub row_len : Row → ℕ
 row_len r = r.len
@@ -39,11 +39,16 @@ base b i = sum (take i (areas b))
 unfoldable pub within : ℕ → ℕ → ℕ
 within i k = sum (take k (lens (point i)))
 
-abbrev pub within_of : ℕ → ℕ → Within
-within_of i k = record { begin = within i k; end = within i (k + 1) }
-
 unfoldable pub len_at : ℕ → ℕ → ℕ
 len_at i k = get_or (lens (point i)) k 0
+
+-- where each row's parameter begins within its logical, one type behind the other
+abbrev pub starts_of : Point → List ℕ
+starts_of p = starts 0 (lens p)
+
+unfoldable pub offsets : List ℕ
+unfolding points
+offsets = joined (map starts_of points)
 
 -- where parameter k of logical l of the i-th type begins in the store
 unfoldable pub offset : Build → ℕ → ℕ → ℕ → ℕ
@@ -64,20 +69,22 @@ pub record Here (b : Build) (i l k : ℕ) : Type 0 where
 abbrev pub spot_of : Build → ℕ → ℕ → ℕ → Spot
 spot_of b i l k = record { row = first i + k; begin = offset b i l k; len = len_at i k }
 
-abbrev pub pick : Bool → Place → Place → Place
-pick true p q = p
-pick false p q = q
+-- what is known of each parameter of the build: it has a row, lies in the store, is as long as its row says, and is short
+pub record IsInside (spot : Spot) : Type 0 where
+  pub row : spot.row < 175
+  pub whole : spot.begin + spot.len ≤ 12427
+  pub length : spot.len ≡ (row_at spot.row).len
+  pub short : spot.len ≤ 40
 
--- A parameter by its three numbers: its row, where it begins, how long it is; or which of the three is wrong. A type with no logical is none.
-unfoldable pub place_of : Build → ℕ → ℕ → ℕ → Place
+-- A parameter by its three numbers: its row, where it begins, how long it is; or which of the three names nothing. A type with no logical is none.
+unfoldable pub place_of : Build → ℕ → ℕ → ℕ → Result Spot Missing
 place_of b t l k =
-    pick (ltb 0 (logicals b (index_of t)))
-    (pick (ltb l (logicals b (index_of t)))
-    (pick (ltb k (height (point (index_of t))))
-    (At (first (index_of t) + k) (offset b (index_of t) l k) (len_at (index_of t) k))
-    NoParameter)
-    NoLogical)
-    NoType
+    if ltb 0 (logicals b (index_of t)) then
+    if ltb l (logicals b (index_of t)) then
+    if ltb k (height (point (index_of t))) then Ok (spot_of b (index_of t) l k)
+    else Err NoParameter
+    else Err NoLogical
+    else Err NoPointType
 
 -- A name for all that a computed example looks through: to unfold it is to unfold what its line names.
 unfoldable pub placing : ℕ

@@ -1,4 +1,4 @@
--- The sums that document 01 prints, computed from the rows.
+-- The sums that the rules print, computed from the rows.
 -- Assumes nothing.
 use Rattle.std.specs.Prelude.{ℕ, ◌*◌, ◌≡◌, refl, [], ◌∷◌, map, length}
 use Rattle.base.specs.Lists.{sum, zipped}

@@ -1,19 +1,13 @@
 -- The check that every call makes of type, logical and parameter: 22, 23, 24, each at its own place.
 -- Assumes nothing.
-use Rattle.std.specs.Prelude.{ℕ, ◌≡◌, refl}
+use Rattle.std.specs.Prelude.{ℕ, Result, Ok, Err}
 use Rattle.base.specs.Check.{Check, fault, pass}
-use Rattle.points.specs.declared.Place.{Place}
-use Rattle.points.specs.declared.Place.TheVariants.{At, NoType, NoLogical, NoParameter}
+use Rattle.points.specs.declared.Spot.{Spot}
+use Rattle.points.specs.declared.Missing.{Missing}
+use Rattle.points.specs.declared.Missing.TheVariants.{NoPointType, NoLogical, NoParameter}
 
--- what passes: the parameter is there
-pub record There (q : Place) : Type 0 where
-  pub row : ℕ
-  pub begin : ℕ
-  pub long : ℕ
-  pub found : q ≡ At row begin long
-
-unfoldable pub there : (q : Place) (ofType ofLogical ofParameter : ℕ) → Check (There q)
-there (At r a n) pt pl pk = pass (record { row = r; begin = a; long = n; found = refl })
-there NoType pt pl pk = fault 22 pt
-there NoLogical pt pl pk = fault 23 pl
-there NoParameter pt pl pk = fault 24 pk
+unfoldable pub there : (q : Result Spot Missing) (ofType ofLogical ofParameter : ℕ) → Check Spot
+there (Ok spot) pt pl pk = pass spot
+there (Err NoPointType) pt pl pk = fault 22 pt
+there (Err NoLogical) pt pl pk = fault 23 pl
+there (Err NoParameter) pt pl pk = fault 24 pk

@@ -68,7 +68,7 @@ counts b = b.logicals97 ∷ b.logicals98 ∷ b.logicals99 ∷ b.logicals122 ∷ 
 unfoldable pub logicals : Build → ℕ → ℕ
 logicals b i = get_or (counts b) i 0
 
--- document 01's
+-- the gateway's
 unfoldable pub gateway : Build
 gateway =
     record { logicals97 = 6; logicals98 = 32; logicals99 = 16; logicals122 = 1; logicals123 = 1; logicals124 = 13 }

@@ -1,44 +1,105 @@
-// The point types: a row for each parameter, and where each lies in the store.
+//! The point types: a row for each parameter, and where each lies in the store.
 #![tactic(auto)]
 
 mod columns;
 
-ghost use Rattle.std.specs.Prelude.{◌≡◌, ◌+◌, ◌<◌, ◌≤◌, length, get_or};
+ghost use Rattle.std.specs.Prelude.{◌≡◌, ◌+◌, ◌<◌, ◌≤◌, get_or, MatchOption, IfOk};
 ghost use Rattle.points.specs.Types.{index_of, point, height, logicals, gateway};
-ghost use Rattle.points.specs.Place.{first, base, each, place_of, Here, within_of, spot_of};
-ghost use Rattle.points.specs.Columns.{row_at, row_kind, row_access, row_range, row_least, row_most, row_default, row_figure, Bounds, read_levels, write_levels};
+ghost use Rattle.points.specs.Place.{first, base, each, offsets, place_of, Here, spot_of, IsInside};
+ghost use Rattle.points.specs.Columns.{row_at, kind_of, access_of, range_of, initial_of, read_levels, write_levels};
 
-// A point type, a logical, a parameter and a count are four kinds of number.
-#[derive(Clone, Copy)]
+/// A point type's number.
+#[derive(Clone, Copy, Debug, PartialEq, Eq, PartialOrd, Ord)]
 pub struct PointType(pub u8);
 
-#[derive(Clone, Copy)]
+/// A logical's number within its point type.
+#[derive(Clone, Copy, Debug, PartialEq, Eq, PartialOrd, Ord)]
 pub struct Logical(pub u8);
 
-#[derive(Clone, Copy)]
+/// A parameter's number within its logical.
+#[derive(Clone, Copy, Debug, PartialEq, Eq, PartialOrd, Ord)]
 pub struct Parameter(pub u8);
 
-#[derive(Clone, Copy)]
+/// How many parameters.
+#[derive(Clone, Copy, Debug, PartialEq, Eq, PartialOrd, Ord)]
 pub struct Count(pub u8);
 
-// A parameter of the build: its row, where it begins in the store, how many bytes it has. Else which number is wrong: 22, 23, 24.
-#[derive(Clone, Copy)]
-pub enum Place {
-    At(usize, usize, usize),
-    NoType,
+/// The three numbers that name a parameter.
+#[derive(Clone, Copy, Debug, PartialEq, Eq)]
+pub struct Tlp {
+    pub point: PointType,
+    pub logical: Logical,
+    pub parameter: Parameter,
+}
+
+impl Tlp {
+    /// The three zeros, by which a value of kind TLP names nothing.
+    pub const NONE: Tlp = Tlp {
+        point: PointType(0),
+        logical: Logical(0),
+        parameter: Parameter(0),
+    };
+}
+
+/// Which of the three numbers names nothing.
+#[derive(Clone, Copy, Debug, PartialEq, Eq)]
+pub enum Missing {
+    NoPointType,
     NoLogical,
     NoParameter,
 }
 
-// A parameter of the build, past all doubt: its row, where it begins in the store, how many bytes it has.
-#[derive(Clone, Copy)]
+/// A parameter of the build: its row, where it begins in the store, how many bytes it has.
+#[derive(Clone, Copy, Debug, PartialEq, Eq)]
 pub struct Spot {
     pub row: usize,
     pub begin: usize,
     pub len: usize,
 }
 
-// The columns by row.
+/// What a value is.
+#[derive(Clone, Copy, Debug, PartialEq, Eq)]
+pub enum Kind {
+    Text,
+    Unsigned,
+    Signed,
+    Single,
+    Double,
+    Tlp,
+}
+
+/// Who may write a value: everybody, the system alone, or the system alone on logical 0.
+#[derive(Clone, Copy, Debug, PartialEq, Eq)]
+pub enum Access {
+    ReadWrite,
+    ReadOnly,
+    ReadOnlyFirst,
+}
+
+/// What a value may be: whatever its kind allows, a stretch of numbers, a status, a sample rate, a segment's size, a TLP of a number.
+#[derive(Clone, Copy, Debug, PartialEq, Eq)]
+pub enum Range {
+    Any,
+    Between { least: u32, most: u32 },
+    Status,
+    Rate,
+    Size,
+    Number,
+}
+
+/// What a fill leaves: a number, a text of the row's own, or what depends on the logical: a soft point's label, a segment's description, 240 on logical 0 alone.
+#[derive(Clone, Copy, Debug, PartialEq, Eq)]
+pub enum Initial {
+    Figure(u32),
+    Words,
+    SoftPoint,
+    Segment,
+    FullFirst,
+}
+
+// The columns by row. `locate` and `spot_at` answer rows below 175. That stands in a clause and not in the type, so that the rules' definitions can build a spot of plain numbers.
+/// How many bytes a value has.
+#[tactic(auto, using(crate::proofs::Tables::length_column), unfolding(crate::specs::Columns::all_rows))]
 pub fn length_at(row: usize) -> u8
     requires { row < 175 }
     ensures { result ≡ (row_at row).len }
@@ -46,63 +107,44 @@ pub fn length_at(row: usize) -> u8
     columns::lengths::LENGTHS[row]
 }
 
-pub fn kind_at(row: usize) -> u8
+/// What a value is.
+#[tactic(auto, using(crate::proofs::Tables::kind_column), unfolding(crate::specs::Columns::all_rows))]
+pub fn kind_at(row: usize) -> Kind
     requires { row < 175 }
-    ensures { result ≡ row_kind (row_at row) }
+    ensures { result ≡ kind_of (row_at row).kind }
 {
     columns::kinds::KINDS[row]
 }
 
-pub fn access_at(row: usize) -> u8
+/// Who may write a value.
+#[tactic(auto, using(crate::proofs::Tables::access_column), unfolding(crate::specs::Columns::all_rows))]
+pub fn access_at(row: usize) -> Access
     requires { row < 175 }
-    ensures { result ≡ row_access (row_at row) }
+    ensures { result ≡ access_of (row_at row).access }
 {
     columns::access::ACCESS[row]
 }
 
-pub fn range_at(row: usize) -> u8
+/// What a value may be.
+#[tactic(auto, using(crate::proofs::Tables::range_column), unfolding(crate::specs::Columns::all_rows))]
+pub fn range_at(row: usize) -> Range
     requires { row < 175 }
-    ensures { result ≡ row_range (row_at row) }
+    ensures { result ≡ range_of (row_at row).range }
 {
     columns::ranges::RANGES[row]
 }
 
-// Which of the bounds that occur are a row's: a place in the two tables of them.
-fn bounds_at(row: usize) -> u8
+/// What a fill leaves.
+#[tactic(auto, using(crate::proofs::Tables::initial_column), unfolding(crate::specs::Columns::all_rows))]
+pub fn default_at(row: usize) -> Initial
     requires { row < 175 }
-    ensures { Bounds row result }
+    ensures { result ≡ initial_of (row_at row).default }
 {
-    columns::bounds::BOUNDS[row]
+    columns::initials::INITIALS[row]
 }
 
-pub fn least_at(row: usize) -> u32
-    requires { row < 175 }
-    ensures { result ≡ row_least (row_at row) }
-{
-    columns::bounds::LEASTS[bounds_at(row) as usize]
-}
-
-pub fn most_at(row: usize) -> u32
-    requires { row < 175 }
-    ensures { result ≡ row_most (row_at row) }
-{
-    columns::bounds::MOSTS[bounds_at(row) as usize]
-}
-
-pub fn default_at(row: usize) -> u8
-    requires { row < 175 }
-    ensures { result ≡ row_default (row_at row) }
-{
-    columns::defaults::DEFAULTS[row]
-}
-
-pub fn figure_at(row: usize) -> u32
-    requires { row < 175 }
-    ensures { result ≡ row_figure (row_at row) }
-{
-    columns::figures::FIGURES[row]
-}
-
+/// The level that reads a value.
+#[tactic(auto, unfolding(crate::specs::Columns::read_levels))]
 pub fn read_level_at(row: usize) -> u8
     requires { row < 175 }
     ensures { result ≡ get_or read_levels row 0 }
@@ -110,6 +152,8 @@ pub fn read_level_at(row: usize) -> u8
     columns::read_levels::READ_LEVELS[row]
 }
 
+/// The level that writes a value.
+#[tactic(auto, unfolding(crate::specs::Columns::write_levels))]
 pub fn write_level_at(row: usize) -> u8
     requires { row < 175 }
     ensures { result ≡ get_or write_levels row 0 }
@@ -117,7 +161,18 @@ pub fn write_level_at(row: usize) -> u8
     columns::write_levels::WRITE_LEVELS[row]
 }
 
-// The columns by type.
+/// Where a value begins within its logical.
+#[tactic(auto, unfolding(crate::specs::Place::offsets))]
+fn offset_at(row: usize) -> u16
+    requires { row < 175 }
+    ensures { result ≡ get_or offsets row 0 }
+{
+    columns::offsets::OFFSETS[row]
+}
+
+// The columns by a point type's index.
+/// How many logicals the build has.
+#[tactic(auto, unfolding(crate::specs::Types::logicals, crate::specs::Types::gateway))]
 pub fn logicals_of(i: usize) -> u8
     requires { i < 6 }
     ensures { result ≡ logicals gateway i }
@@ -125,6 +180,8 @@ pub fn logicals_of(i: usize) -> u8
     columns::LOGICALS[i]
 }
 
+/// How many parameters a logical has.
+#[tactic(auto, unfolding(crate::specs::Types::point))]
 pub fn height_of(i: usize) -> u8
     requires { i < 6 }
     ensures { result ≡ height (point i) }
@@ -132,6 +189,8 @@ pub fn height_of(i: usize) -> u8
     columns::HEIGHTS[i]
 }
 
+/// The row of its first parameter.
+#[tactic(auto, unfolding(crate::specs::Place::first))]
 pub fn first_of(i: usize) -> u8
     requires { i < 6 }
     ensures { result ≡ first i }
@@ -139,6 +198,8 @@ pub fn first_of(i: usize) -> u8
     columns::FIRSTS[i]
 }
 
+/// Where its logicals begin in the store.
+#[tactic(auto, using(crate::proofs::Tables::base_column), unfolding(crate::specs::Types::gateway, crate::specs::Place::areas))]
 fn base_of(i: usize) -> u16
     requires { i < 6 }
     ensures { result ≡ base gateway i }
@@ -146,6 +207,8 @@ fn base_of(i: usize) -> u16
     columns::BASES[i]
 }
 
+/// How many bytes a logical has.
+#[tactic(auto, unfolding(crate::specs::Types::point))]
 fn each_of(i: usize) -> u16
     requires { i < 6 }
     ensures { result ≡ each (point i) }
@@ -153,102 +216,52 @@ fn each_of(i: usize) -> u16
     columns::EACHES[i]
 }
 
-// The index of a point type; 6 where it is none.
-pub fn index_of(t: PointType) -> usize
-    ensures { result ≡ index_of t.0 }
+/// The index of a point type, if it is one.
+#[tactic(auto, unfolding(crate::specs::Types::index_of))]
+pub fn index_of(point: PointType) -> Option<usize>
+    ensures { MatchOption result (6 ≤ index_of point.0) (λ i. (i ≡ index_of point.0) × (i < 6)) }
 {
-    let n = t.0;
-    match n {
-        97 => 0,
-        98 => 1,
-        99 => 2,
-        122 => 3,
-        123 => 4,
-        124 => 5,
-        _ => 6,
+    match point.0 {
+        97 => Some(0),
+        98 => Some(1),
+        99 => Some(2),
+        122 => Some(3),
+        123 => Some(4),
+        124 => Some(5),
+        _ => None,
     }
 }
 
-// Where parameter k begins within its logical, and where it ends.
-#[derive(Clone, Copy)]
-pub struct Within {
-    pub begin: u16,
-    pub end: u16,
-}
-
-fn edges_in(table: &[u16], k: usize) -> Within
-    requires { k + 1 < length table.now }
-    ensures { result ≡ record { begin = get_or table.now k 0; end = get_or table.now (k + 1) 0 } }
+/// A parameter that the build has: parameter and logical of the point type with an index.
+#[tactic(auto, using(crate::proofs::Cases::in_store, crate::proofs::Cases::spot_is))]
+pub fn spot_at(index: usize, logical: Logical, parameter: Parameter) -> Spot
+    requires { Here gateway index logical.0 parameter.0 }
+    ensures is { result ≡ spot_of gateway index logical.0 parameter.0 }
+    ensures inside { IsInside result }
 {
-    Within {
-        begin: table[k],
-        end: table[k + 1],
-    }
-}
-
-// A table is made where it is used, and only there: an array in the arm is made in that arm alone.
-fn within_of(i: usize, k: usize) -> Within
-    requires { (i < 6) × (k < height (point i)) }
-    ensures { result ≡ within_of i k }
-{
-    match i {
-        0 => {
-            let table = columns::beginnings::OF_97;
-            edges_in(&table[..], k)
-        }
-        1 => {
-            let table = columns::beginnings::OF_98;
-            edges_in(&table[..], k)
-        }
-        2 => {
-            let table = columns::beginnings::OF_99;
-            edges_in(&table[..], k)
-        }
-        3 => {
-            let table = columns::beginnings::OF_122;
-            edges_in(&table[..], k)
-        }
-        4 => {
-            let table = columns::beginnings::OF_123;
-            edges_in(&table[..], k)
-        }
-        _ => {
-            let table = columns::beginnings::OF_124;
-            edges_in(&table[..], k)
-        }
-    }
-}
-
-// Parameter k of logical l of the i-th type.
-pub fn spot_at(i: usize, l: u8, k: usize) -> Spot
-    requires { Here gateway i l k }
-    ensures { result ≡ spot_of gateway i l k }
-{
-    let row = first_of(i) as usize + k;
-    let logical = base_of(i) as usize + l as usize * each_of(i) as usize;
-    let within = within_of(i, k);
+    let row = first_of(index) as usize + parameter.0 as usize;
+    let start = base_of(index) as usize + logical.0 as usize * each_of(index) as usize;
     Spot {
         row,
-        begin: logical + within.begin as usize,
-        len: (within.end - within.begin) as usize,
+        begin: start + offset_at(row) as usize,
+        len: length_at(row) as usize,
     }
 }
 
-pub fn locate(t: PointType, l: Logical, p: Parameter) -> Place
-    ensures { result ≡ place_of gateway t.0 l.0 p.0 }
+/// A parameter by its three numbers, or which of them names nothing: the point type is judged first, then the logical, then the parameter.
+#[tactic(auto, using(crate::proofs::Cases::no_type, crate::proofs::Cases::of_type))]
+pub fn locate(tlp: Tlp) -> Result<Spot, Missing>
+    ensures is { result ≡ place_of gateway tlp.point.0 tlp.logical.0 tlp.parameter.0 }
+    ensures inside { IfOk result IsInside }
 {
-    let i = index_of(t);
-    if 6 <= i {
-        return Place::NoType;
+    let Some(index) = index_of(tlp.point) else {
+        return Err(Missing::NoPointType);
+    };
+    if logicals_of(index) <= tlp.logical.0 {
+        return Err(Missing::NoLogical);
     }
-    let m = l.0;
-    if logicals_of(i) <= m {
-        return Place::NoLogical;
+    if height_of(index) <= tlp.parameter.0 {
+        return Err(Missing::NoParameter);
     }
-    let k = p.0;
-    if height_of(i) <= k {
-        return Place::NoParameter;
-    }
-    let s = spot_at(i, m, k as usize);
-    Place::At(s.row, s.begin, s.len)
+    Ok(spot_at(index, tlp.logical, tlp.parameter))
 }

@@ -1,24 +1,24 @@
--- What each opcode leaves, where it touches only some of the buffers; and the opcode by its number.
+-- What each opcode leaves, where it touches only some of the buffers.
 -- Assumes nothing.
-use Prim.Native.Nat.{ℕ}
-use mathlib.Core.Path.{◌≡◌, refl, sym, ap, ◌∙◌}
-use mathlib.Core.Bool.{Bool, true, false, cond}
+use Prim.Native.Nat.{ℕ, ◌≤◌}
+use native.Mathlib.Omega.{arith}
+use mathlib.Core.Path.{◌≡◌, refl, sym, ap, ap₂, ◌∙◌, subst}
+use mathlib.Core.Bool.{Bool, true, false, cond, not}
 use mathlib.Core.List.{List, []}
-use borrow.Author.Tests.{ne_eqb}
-use Rattle.base.specs.Check.{Check}
+use lib.ListN.{length}
+use Rattle.base.specs.Check.{Check, fault, pass}
 use Rattle.base.specs.Lists.{put}
 use Rattle.base.proofs.Checks.{Holds, faulty, passing, step}
 use Rattle.base.proofs.Parts.{put-none}
 use Rattle.points.specs.Types.{gateway}
 use Rattle.store.specs.Store.{stored}
-use Rattle.rules.specs.Deeds.{Deeds, told}
-use Rattle.rules.specs.Opcodes.{plan7, plan8, plan10, plan11, plan166, plan167, plan180, plan181, opcode_of, plan}
-use Rattle.opcodes.specs.Done.{done_of, space_by, store_by, clock_by, Told, Kept}
-use Rattle.opcodes.specs.Clocks as clocks
-use Rattle.opcodes.specs.Walks.{held}
-use Rattle.opcodes.specs.declared.Done.{Done}
-use Rattle.opcodes.specs.declared.Done.TheVariants.{Fault}
-use Rattle.request.specs.Acted.{Acted}
+use Rattle.frame.specs.Frame.{opcode, data_of, is_broadcast}
+use Rattle.rules.specs.Deeds.{Deeds, told, sizes}
+use Rattle.rules.specs.Opcodes.{plan7, plan8, plan10, plan11, plan166, plan167, plan180, plan181, Opcode, unserved, opcode_of, plan}
+use Rattle.rules.proofs.Lawful.{Lawful, lawful}
+use Rattle.request.specs.Acted.{without_data, Acted}
+use Rattle.opcodes.specs.Done.{held, said, done, space_by, store_by, clock_by}
+use Rattle.request.specs.Sent.{plan_for}
 
 -- a plan that stores nothing and leaves the clock, one that tells nothing and leaves it, and one that only sets it
 abbrev Reads : List ℕ → Deeds → Type 0
@@ -30,107 +30,112 @@ Writes c d = (d.says ≡ []) × (d.clock ≡ c)
 abbrev Sets : Deeds → Type 0
 Sets d = (d.says ≡ []) × (d.puts ≡ [])
 
+pub reads7 : (s c d : List ℕ) → Holds (Reads c) (plan7 (held s c) d)
+unfolding plan7
+reads7 s c d = step _ λ _. passing (refl, refl)
+
+pub sets8 : (level : ℕ) (d : List ℕ) → Holds Sets (plan8 level d)
+unfolding plan8
+sets8 level d = step _ λ _. step _ λ _. step _ λ _. step _ λ _. step _ λ _. step _ λ _. step _ λ _. step _ λ _. step _ λ _. passing (refl, refl)
+
 module _ (level : ℕ) (s c d : List ℕ) where
-  reads7 : Holds (Reads c) (plan7 (held s c) d)
-  unfolding plan7
-  reads7 = step _ λ _. passing (refl, refl)
-
-  sets8 : Holds Sets (plan8 level d)
-  unfolding plan8
-  sets8 = step _ λ _. step _ λ _. step _ λ _. step _ λ _. step _ λ _. step _ λ _. step _ λ _. step _ λ _. step _ λ _. passing (refl, refl)
-
-  reads10 : Holds (Reads c) (plan10 gateway level (held s c) d)
+  pub reads10 : Holds (Reads c) (plan10 gateway level (held s c) d)
   unfolding plan10
   reads10 = step _ λ _. step _ λ _. passing (refl, refl)
 
-  writes11 : Holds (Writes c) (plan11 gateway level (held s c) d)
+  pub writes11 : Holds (Writes c) (plan11 gateway level (held s c) d)
   unfolding plan11
   writes11 = step _ λ _. step _ λ _. passing (refl, refl)
 
-  writes166 : Holds (Writes c) (plan166 gateway level (held s c) d)
+  pub writes166 : Holds (Writes c) (plan166 gateway level (held s c) d)
   unfolding plan166
   writes166 = step _ λ _. step _ λ _. step _ λ _. passing (refl, refl)
 
-  reads167 : Holds (Reads c) (plan167 gateway level (held s c) d)
+  pub reads167 : Holds (Reads c) (plan167 gateway level (held s c) d)
   unfolding plan167
   reads167 = step _ λ _. step _ λ _. step _ λ _. step _ λ _. passing (refl, refl)
 
-  reads180 : Holds (Reads c) (plan180 gateway level (held s c) d)
+  pub reads180 : Holds (Reads c) (plan180 gateway level (held s c) d)
   unfolding plan180
   reads180 = step _ λ _. step _ λ _. passing (refl, refl)
 
-  writes181 : Holds (Writes c) (plan181 gateway level (held s c) d)
+  pub writes181 : Holds (Writes c) (plan181 gateway level (held s c) d)
   unfolding plan181
   writes181 = step _ λ _. step _ λ _. passing (refl, refl)
 
-cond_same : (b : Bool) (r : List ℕ) → r ≡ cond b r r
-cond_same true r = refl
-cond_same false r = refl
+-- a plan p that is carried out: primed is what is left
+module _ (level : ℕ) (s c r : List ℕ) (all : Bool) (seven : length c ≡ 7) where
+  -- what is told is short
+  few : (p : Check Deeds) → Holds (Lawful gateway level (held s c)) p → (x : Check ℕ) → x ≡ said p → (n : ℕ) → x ≡ pass n → n ≤ 255
+  few (fault m q) l x e n y = let z : ◌≡◌ {A = ℕ} 0 1 = cc in absurd (omega arith)
+  few (pass d) (passing l) x e n y = let ns : n ≡ sizes d.says = cc in omega (arith, l.short seven)
 
-silent : (aloud : Bool) (s r : List ℕ) (d : Deeds) → d.says ≡ [] → r ≡ cond aloud (put r 6 (told gateway s d.says)) r
-unfolding told
-silent aloud s r d e = rw e (cond_same aloud r ∙ ap (λ (x : List ℕ). cond aloud x r) (sym (put-none r 6)))
+  -- all says whether it is a broadcast
+  abbrev aloud : Bool
+  aloud = not all
 
-told-acted : (aloud : Bool) (s c r r' : List ℕ) (x : Done) (p : Check Deeds) → Holds (Reads c) p → Told x aloud s r r' p → Acted aloud s s c c r r' x p
-unfolding store_by clock_by stored
-told-acted aloud s c r r' x p faulty t = record { answer = t.answer; store = refl; clock = refl; space = t.space }
-told-acted aloud s c r r' x p (passing q) t = record { answer = t.answer; store = sym (ap (stored gateway s) q.0); clock = sym q.1; space = t.space }
+  cond_same : (b : Bool) → r ≡ cond b r r
+  cond_same true = refl
+  cond_same false = refl
 
-kept-acted : (aloud : Bool) (s s' c r : List ℕ) (x : Done) (p : Check Deeds) → Holds (Writes c) p → Kept x s s' p → Acted aloud s s' c c r r x p
-unfolding space_by clock_by
-kept-acted aloud s s' c r x p faulty t = record { answer = t.answer; store = t.store; clock = refl; space = refl }
-kept-acted aloud s s' c r x p (passing {a} q) t = record { answer = t.answer; store = t.store; clock = sym q.1; space = silent aloud s r a q.0 }
+  silent : (d : Deeds) → d.says ≡ [] → r ≡ cond aloud (put r 6 (told gateway s d.says)) r
+  unfolding told
+  silent d e = rw (e, put-none) (cond_same aloud)
 
-set-acted : (aloud : Bool) (s c c' r : List ℕ) (x : Done) (p : Check Deeds) → Holds Sets p → x ≡ done_of p → c' ≡ clock_by c p → Acted aloud s s c c' r r x p
-unfolding space_by store_by stored
-set-acted aloud s c c' r x p faulty e f = record { answer = e; store = refl; clock = f; space = refl }
-set-acted aloud s c c' r x p (passing {a} q) e f = record { answer = e; store = sym (ap (stored gateway s) q.1); clock = f; space = silent aloud s r a q.0 }
+  read-acted : (p : Check Deeds) → Holds (Lawful gateway level (held s c)) p → Holds (Reads c) p → (x : Check ℕ) (r' : List ℕ)
+      → x ≡ said p → r' ≡ space_by aloud s r p → Acted p aloud s s c c r r' x
+  unfolding stored
+  read-acted p l faulty x r' e w = record { answer = e; few = few p l x e; store = refl; clock = refl; space = w }
+  read-acted p l (passing q) x r' e w = record { answer = e; few = few p l x e; store = sym (ap (stored gateway s) q.0); clock = sym q.1; space = w }
 
--- ---- each opcode by its number op, as the code takes it
+  written-acted : (p : Check Deeds) → Holds (Lawful gateway level (held s c)) p → Holds (Writes c) p → (x : Check Unit) (s' : List ℕ)
+      → x ≡ done p → s' ≡ store_by s p → Acted p aloud s s' c c r r (without_data x)
+  unfolding without_data
+  written-acted p l faulty x s' e w =
+      let a : without_data x ≡ said p = rw e in
+      record { answer = a; few = few p l (without_data x) a; store = w; clock = refl; space = refl }
+  written-acted p l (passing {a = d} q) x s' e w =
+      let a : without_data x ≡ said p = rw (e, q.0) in
+      record { answer = a; few = few p l (without_data x) a; store = w; clock = sym q.1; space = silent d q.0 }
 
-module _ (aloud : Bool) (level op : ℕ) (s c d r : List ℕ) where
-  pub act7 : op ≡ 7 → (r' : List ℕ) (x : Done) → clocks.Told aloud d c r r' x → Acted aloud s s c c r r' x (plan gateway (opcode_of op) level (held s c) d)
-  unfolding opcode_of plan
-  act7 e r' x t = rw e (told-acted aloud s c r r' x _ (reads7 level s c d) (record { answer = t.done s; space = t.space s }))
+  set-acted : (p : Check Deeds) → Holds (Lawful gateway level (held s c)) p → Holds Sets p → (x : Check Unit) (c' : List ℕ)
+      → x ≡ done p → c' ≡ clock_by c p → Acted p aloud s s c c' r r (without_data x)
+  unfolding stored without_data
+  set-acted p l faulty x c' e w =
+      let a : without_data x ≡ said p = rw e in
+      record { answer = a; few = few p l (without_data x) a; store = refl; clock = w; space = refl }
+  set-acted p l (passing {a = d} q) x c' e w =
+      let a : without_data x ≡ said p = rw (e, q.0) in
+      record { answer = a; few = few p l (without_data x) a; store = sym (ap (stored gateway s) q.1); clock = w; space = silent d q.0 }
 
-  pub act8 : op ≡ 8 → (c' : List ℕ) (x : Done) → (x ≡ done_of (plan8 level d)) × (c' ≡ clock_by c (plan8 level d)) → Acted aloud s s c c' r r x (plan gateway (opcode_of op) level (held s c) d)
-  unfolding opcode_of plan
-  act8 e c' x t = rw e (set-acted aloud s c c' r x _ (sets8 level s c d) t.0 t.1)
+  -- the same of the plan for the frame f, whose opcode has the number n and is o, and whose data is d
+  module _ (f d : List ℕ) (n : ℕ) (o : Opcode) (its_number : n ≡ opcode f) (served : opcode_of n ≡ o) (given : d ≡ data_of f) (to_all : all ≡ is_broadcast f) where
+    abbrev its_plan : Check Deeds
+    its_plan = plan gateway o level (held s c) d
 
-  pub act10 : op ≡ 10 → (r' : List ℕ) (x : Done) → ((k : List ℕ) → Told x aloud s r r' (plan10 gateway level (held s k) d)) → Acted aloud s s c c r r' x (plan gateway (opcode_of op) level (held s c) d)
-  unfolding opcode_of plan
-  act10 e r' x t = rw e (told-acted aloud s c r r' x _ (reads10 level s c d) (t c))
+    held_by : Holds (Lawful gateway level (held s c)) its_plan
+    held_by = lawful gateway level (held s c) d o
 
-  pub act11 : op ≡ 11 → (s' : List ℕ) (x : Done) → ((k : List ℕ) → Kept x s s' (plan11 gateway level (held s k) d)) → Acted aloud s s' c c r r x (plan gateway (opcode_of op) level (held s c) d)
-  unfolding opcode_of plan
-  act11 e s' x t = rw e (kept-acted aloud s s' c r x _ (writes11 level s c d) (t c))
+    abbrev Leaves : List ℕ → List ℕ → List ℕ → Check ℕ → Type 0
+    Leaves s' c' r' x = Acted (plan_for f level s c) (not (is_broadcast f)) s s' c c' r r' x
 
-  pub act166 : op ≡ 166 → (s' : List ℕ) (x : Done) → ((k : List ℕ) → Kept x s s' (plan166 gateway level (held s k) d)) → Acted aloud s s' c c r r x (plan gateway (opcode_of op) level (held s c) d)
-  unfolding opcode_of plan
-  act166 e s' x t = rw e (kept-acted aloud s s' c r x _ (writes166 level s c d) (t c))
+    its : (s' c' r' : List ℕ) (x : Check ℕ) → Acted its_plan aloud s s' c c' r r' x → Leaves s' c' r' x
+    its s' c' r' x q =
+        let same : its_plan ≡ plan_for f level s c = ap₂ (λ (k : Opcode) (e : List ℕ). plan gateway k level (held s c) e) (sym (sym (ap opcode_of its_number) ∙ served)) given in
+        subst (λ (b : Bool). Acted (plan_for f level s c) (not b) s s' c c' r r' x) to_all (subst (λ (p : Check Deeds). Acted p aloud s s' c c' r r' x) same q)
 
-  pub act167 : op ≡ 167 → (r' : List ℕ) (x : Done) → ((k : List ℕ) → Told x aloud s r r' (plan167 gateway level (held s k) d)) → Acted aloud s s c c r r' x (plan gateway (opcode_of op) level (held s c) d)
-  unfolding opcode_of plan
-  act167 e r' x t = rw e (told-acted aloud s c r r' x _ (reads167 level s c d) (t c))
+    pub has_read : Holds (Reads c) its_plan → (x : Check ℕ) (r' : List ℕ) → x ≡ said its_plan → r' ≡ space_by aloud s r its_plan → Leaves s c r' x
+    has_read q x r' e w = its s c r' x (read-acted its_plan held_by q x r' e w)
 
-  pub act180 : op ≡ 180 → (r' : List ℕ) (x : Done) → ((k : List ℕ) → Told x aloud s r r' (plan180 gateway level (held s k) d)) → Acted aloud s s c c r r' x (plan gateway (opcode_of op) level (held s c) d)
-  unfolding opcode_of plan
-  act180 e r' x t = rw e (told-acted aloud s c r r' x _ (reads180 level s c d) (t c))
+    -- y is the same answer as it is handed on
+    pub has_written : Holds (Writes c) its_plan → (x : Check Unit) (y : Check ℕ) (s' : List ℕ) → y ≡ without_data x → x ≡ done its_plan → s' ≡ store_by s its_plan → Leaves s' c r y
+    has_written q x y s' h e w = rw h (its s' c r (without_data x) (written-acted its_plan held_by q x s' e w))
 
-  pub act181 : op ≡ 181 → (s' : List ℕ) (x : Done) → ((k : List ℕ) → Kept x s s' (plan181 gateway level (held s k) d)) → Acted aloud s s' c c r r x (plan gateway (opcode_of op) level (held s c) d)
-  unfolding opcode_of plan
-  act181 e s' x t = rw e (kept-acted aloud s s' c r x _ (writes181 level s c d) (t c))
+    pub has_set : Holds Sets its_plan → (x : Check Unit) (y : Check ℕ) (c' : List ℕ) → y ≡ without_data x → x ≡ done its_plan → c' ≡ clock_by c its_plan → Leaves s c' r y
+    has_set q x y c' h e w = rw h (its s c' r (without_data x) (set-acted its_plan held_by q x c' e w))
 
-  pub unserved_acted : (((((((Unit {0} × (op ≡ 7 → ⊥)) × (op ≡ 8 → ⊥)) × (op ≡ 10 → ⊥)) × (op ≡ 11 → ⊥)) × (op ≡ 166 → ⊥)) × (op ≡ 167 → ⊥)) × (op ≡ 180 → ⊥)) × (op ≡ 181 → ⊥) → Acted aloud s s c c r r (Fault 20 0) (plan gateway (opcode_of op) level (held s c) d)
-  unfolding opcode_of plan done_of store_by clock_by space_by
-  unserved_acted q =
-      simp (
-        ne_eqb _ _ q.1,
-        ne_eqb _ _ q.0.1,
-        ne_eqb _ _ q.0.0.1,
-        ne_eqb _ _ q.0.0.0.1,
-        ne_eqb _ _ q.0.0.0.0.1,
-        ne_eqb _ _ q.0.0.0.0.0.1,
-        ne_eqb _ _ q.0.0.0.0.0.0.1,
-        ne_eqb _ _ q.0.0.0.0.0.0.0.1,
-      ) (record { answer = refl; store = refl; clock = refl; space = refl })
+    pub has_none : o ≡ unserved → (y : Check ℕ) → y ≡ fault 20 0 → Leaves s c r y
+    unfolding plan
+    has_none e y h =
+        let none : its_plan ≡ fault 20 0 = rw e in
+        rw h (its s c r (fault 20 0) (rw none (record { answer = refl; few = few (fault 20 0) faulty (fault 20 0) refl; store = refl; clock = refl; space = refl })))

@@ -1,5 +1,3 @@
 pub mod Acting
-pub mod Errors
-pub mod Finished
-pub mod Performed
-pub mod Requested
+pub mod Answered
+pub mod Sent

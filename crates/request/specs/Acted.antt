@@ -1,23 +1,20 @@
--- What a request that is received comes to.
+-- What an opcode that was carried out leaves.
 -- Assumes nothing.
-use Rattle.std.specs.Prelude.{ℕ, ◌≤◌, ◌≡◌, Bool, List, length}
-use Rattle.base.specs.Check.{Check}
-use Rattle.points.specs.Types.{gateway}
-use Rattle.points.specs.Place.{store_size}
+use Rattle.std.specs.Prelude.{ℕ, ◌≤◌, ◌≡◌, Bool, List}
+use Rattle.base.specs.Check.{Check, fault, pass}
 use Rattle.rules.specs.Deeds.{Deeds}
-use Rattle.opcodes.specs.Done.{done_of, space_by, store_by, clock_by}
-use Rattle.opcodes.specs.declared.Done.{Done}
+use Rattle.opcodes.specs.Done.{said, space_by, store_by, clock_by}
 
--- what is known where an opcode acts
-pub record Acting (d s c r : List ℕ) : Type 0 where
-  pub short : length d ≤ 255
-  pub whole_store : length s ≡ store_size gateway
-  pub seven : length c ≡ 7
-  pub room : 263 ≤ length r
+-- a write tells nothing
+unfoldable pub without_data : Check Unit → Check ℕ
+without_data (fault n p) = fault n p
+without_data (pass x) = pass 0
 
--- what it leaves in store, clock and reply space, where p is its plan
-pub record Acted (aloud : Bool) (s s' c c' r r' : List ℕ) (x : Done) (p : Check Deeds) : Type 0 where
-  pub answer : x ≡ done_of p
+-- What is left where the plan p was to be carried out, with the answer x: how many bytes of data stand in the reply, or the fault. What is
+-- primed is left of store, clock and reply space.
+pub record Acted (p : Check Deeds) (aloud : Bool) (s s' c c' r r' : List ℕ) (x : Check ℕ) : Type 0 where
+  pub answer : x ≡ said p
+  pub few : (n : ℕ) → x ≡ pass n → n ≤ 255
   pub store : s' ≡ store_by s p
   pub clock : c' ≡ clock_by c p
   pub space : r' ≡ space_by aloud s r p

@@ -1,2 +1,2 @@
 pub mod Acted
-pub mod Performed
+pub mod Sent

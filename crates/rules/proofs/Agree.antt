@@ -12,13 +12,10 @@ use lib.Dec.{eqb}
 use Rattle.base.specs.Lists.{All, only}
 use Rattle.points.specs.Types.{points, Build, logicals, point, tables, segments}
 use Rattle.points.specs.Place.{store_size}
-use Rattle.store.specs.Store.{value, values, Write, storing, stored}
-use Rattle.store.proofs.Laws.{Sound, Names, names?, storing-there, storing_elsewhere, stored-length}
+use Rattle.store.specs.Store.{value, values, Write, Names, storing, stored}
+use Rattle.store.proofs.Laws.{Sound, names?, storing-there, storing_elsewhere, stored-length}
 use Rattle.values.specs.Pairs.{pair_of, paired, together}
-
--- two stores hold the same in every parameter of a type that level K reads
-abbrev pub Agree : Build → ℕ → List ℕ → List ℕ → Type 0
-Agree b K s t = (i l k : ℕ) → l < logicals b i → (point i).reads ≤ K → value b s i l k ≡ value b t i l k
+use Rattle.rules.specs.Agree.{Agree}
 
 pub lower : (b : Build) (K L : ℕ) (s t : List ℕ) → L ≤ K → Agree b K s t → Agree b L s t
 lower b K L s t h same i l k hl hr = same i l k hl (omega arith)
@@ -29,7 +26,7 @@ pub tables_open : (point tables).reads ≤ 0
 unfolding point points
 tables_open = omega arith
 
-pub segments_open : (point segments).reads ≤ 0
+segments_open : (point segments).reads ≤ 0
 unfolding point points
 segments_open = omega arith
 
@@ -54,7 +51,7 @@ values_same b K s t same i l k (suc n) hl hr =
 
 -- ---- the same values stored in both
 
-pub storing-same : (b : Build) (K : ℕ) (s t : List ℕ) → length s ≡ store_size b → length t ≡ store_size b → (w : Write) → Sound b w
+storing-same : (b : Build) (K : ℕ) (s t : List ℕ) → length s ≡ store_size b → length t ≡ store_size b → (w : Write) → Sound b w
     → Agree b K s t → Agree b K (storing b s w) (storing b t w)
 storing-same b K s t ls lt w o same i l k h r = go (names? w i l k)
   where

@@ -5,10 +5,10 @@ use Prim.Native.Nat.{ℕ, zero, suc}
 use native.Mathlib.Omega.{arith}
 use mathlib.Core.Path.{◌≡◌, refl}
 use mathlib.Core.List.{List, [], ◌∷◌}
-use borrow.Author.Tests.{leb-true, ltb-true}
+use borrow.Author.Tests.{leb-true}
 use lib.ListN.{length, get_or, drop}
 use Rattle.base.specs.Lists.{All}
-use Rattle.base.proofs.Checks.{step_same, test-same, hold_same, both-same}
+use Rattle.base.proofs.Checks.{step_same, test-same, hold_same, both-same, same-test}
 use Rattle.points.specs.Types.{Build, tables}
 use Rattle.points.specs.Place.{store_size}
 use Rattle.store.specs.Store.{Write, stored}
@@ -19,8 +19,9 @@ use Rattle.rules.specs.Entries.{Caller, request, system, Named, Source, block, n
 use Rattle.rules.specs.Lists.{write_level, entry, accepts, writing}
 use Rattle.rules.specs.Opcodes.{plan7, plan167, plan166, plan180, plan181, plan10, plan11, Opcode, read7, set8, read10, write11, write166, read167, read180, write181, unserved, plan}
 use Rattle.rules.specs.System.{setting}
-use Rattle.rules.proofs.Agree.{Agree, tables_open, together-same, values_same, stored_same}
-use Rattle.rules.proofs.Found.{Stands, is-placed, Ready, next-holds, ready-after}
+use Rattle.rules.specs.Agree.{Agree}
+use Rattle.rules.proofs.Agree.{tables_open, together-same, values_same, stored_same}
+use Rattle.rules.proofs.Found.{Stands, finds, spans-finds, Ready, next-holds, ready-after, locates-known}
 use Rattle.rules.proofs.Walks.{accepts-holds, entry-sound}
 
 module _ (b : Build) (s t : List ℕ) (ls : length s ≡ store_size b) (lt : length t ≡ store_size b) (same : Agree b 0 s t) where
@@ -28,7 +29,7 @@ module _ (b : Build) (s t : List ℕ) (ls : length s ≡ store_size b) (lt : len
       → accepts b who s ws p d locked at ≡ accepts b who t ws p d locked at
   unfolding accepts
   accepts-same who ws p d locked at o w =
-      step_same _ λ _. step_same _ λ long. step_same _ λ _.
+      step_same _ λ _. same-test _ _ λ long. step_same _ λ _.
       let ws' : List Write = entry p d ∷ ws in
       let o' : All (Sound b) ws' = (entry-sound b p d w (leb-true _ _ long), o) in
       test-same _ _ (together-same b (stored b s ws') (stored b t ws') (stored_same b 0 s t ls lt same ws' o') p.type p.logical p.parameter w.logical) refl
@@ -54,14 +55,14 @@ module _ (b : Build) (s t : List ℕ) (ls : length s ≡ store_size b) (lt : len
     plan-same read7 = refl
     plan-same set8 = refl
     plan-same read10 =
-        step_same _ λ tab.
-        rw (values_same b 0 s t same tables (get_or d 0 0) (get_or d 1 0) (get_or d 2 0) (ltb-true _ _ tab) tables_open)
+        hold_same (locates-known b d) λ _ known.
+        rw (values_same b 0 s t same tables (get_or d 0 0) (get_or d 1 0) (get_or d 2 0) known tables_open)
     plan-same write11 =
-        step_same _ λ tab.
-        rw (values_same b 0 s t same tables (get_or d 0 0) (get_or d 1 0) (get_or d 2 0) (ltb-true _ _ tab) tables_open, writing-same (request L) (located _) (get_or d 2 0) (drop 3 d) 3 [] tt tt)
+        hold_same (locates-known b d) λ _ known.
+        rw (values_same b 0 s t same tables (get_or d 0 0) (get_or d 1 0) (get_or d 2 0) known tables_open, writing-same (request L) (located _) (get_or d 2 0) (drop 3 d) 3 [] tt tt)
     plan-same write166 =
-        step_same _ λ e. step_same _ λ lv.
-        rw (writing-same (request L) (block _ _ (get_or d 3 0)) (get_or d 2 0) (drop 4 d) 4 [] ((is-placed e).logical, omega (arith, (is-placed e).parameter), lv) tt)
+        hold_same (spans-finds b d) λ _ e. same-test _ _ λ lv.
+        rw (writing-same (request L) (block _ _ (get_or d 3 0)) (get_or d 2 0) (drop 4 d) 4 [] (e.logical, omega (arith, e.parameter), lv) tt)
     plan-same read167 = refl
     plan-same read180 = refl
     plan-same write181 = step_same _ λ _. rw (writing-same (request L) named (get_or d 0 0) (drop 1 d) 1 [] tt tt)
@@ -70,8 +71,8 @@ module _ (b : Build) (s t : List ℕ) (ls : length s ≡ store_size b) (lt : len
   pub setting_same : (y l k : ℕ) (v : List ℕ) → setting b s y l k v ≡ setting b t y l k v
   unfolding setting
   setting_same y l k v =
-      test-same _ _ (rw (ls, lt)) (step_same _ λ e. step_same _ λ _.
-      writing-same system (block _ _ k) 1 v 0 [] ((is-placed e).logical, omega (arith, (is-placed e).parameter), refl) tt)
+      test-same _ _ (rw (ls, lt)) (hold_same (finds b y l k 0 0 0) λ _ e. step_same _ λ _.
+      writing-same system (block _ _ k) 1 v 0 [] (e.logical, omega (arith, e.parameter), refl) tt)
 
   pub received-same : (a : Asked) (c : List ℕ) (n : ℕ) → received b a (record { store = s; clock = c }) n ≡ received b a (record { store = t; clock = c }) n
   unfolding received

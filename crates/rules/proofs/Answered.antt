@@ -9,7 +9,7 @@ use lib.ListN.{length}
 use lib.Dec.{eqb}
 use Rattle.base.specs.Check.{Check, fault, pass}
 use Rattle.base.specs.Lists.{over}
-use Rattle.base.proofs.Checks.{Holds, passing, step, step_with, anyway}
+use Rattle.base.proofs.Checks.{Holds, passing, step, step_with, anyway, step-test}
 use Rattle.clock.specs.Moments.{valid_clock, later, tick, clock_of, clock_bytes}
 use Rattle.points.specs.Types.{Build}
 use Rattle.points.specs.Place.{store_size}
@@ -41,12 +41,12 @@ pub record Received (b : Build) (a : Asked) (h : Held) (r : ℕ) : Type 0 where
 -- a frame of 8 + n bytes
 whole-holds : (f : List ℕ) → Holds (λ _. (8 ≤ length f) × (length f ≤ longest) × (length f ≡ data_length f + 8)) (whole f)
 unfolding whole
-whole-holds f = step _ λ eight. step _ λ long. step _ λ exact. step _ λ _. passing (leb-true _ _ eight, leb-true _ _ long, eqb-true _ _ exact)
+whole-holds f = step-test _ _ λ eight. step-test _ _ λ long. step-test _ _ λ exact. step _ λ _. passing (leb-true _ _ eight, leb-true _ _ long, eqb-true _ _ exact)
 
 received-holds : (b : Build) (a : Asked) (h : Held) (r : ℕ) → Holds (λ _. received b a h r ≡ pass tt → Received b a h r) (received b a h r)
 unfolding received
 received-holds b a h r =
-    step _ λ room. step _ λ whole. step _ λ _. step _ λ level. step _ λ clock. step_with (whole-holds a.frame) λ _ f. step _ λ _.
+    step-test _ _ λ room. step-test _ _ λ whole. step _ λ _. step-test _ _ λ level. step-test _ _ λ clock. step_with (whole-holds a.frame) λ _ f. step _ λ _.
     passing (λ e. record { passed = e; room = leb-true _ _ room; whole = eqb-true _ _ whole; level = leb-true _ _ level; clock = clock; eight = f.0; long = f.1; exact = f.2 })
 
 pub received_is : (b : Build) (a : Asked) (h : Held) (r : ℕ) → received b a h r ≡ pass tt → Received b a h r
@@ -91,7 +91,7 @@ pub data Written (b : Build) (s : List ℕ) (t l k : ℕ) (v : List ℕ) : Left 
 
 setting-whole : (b : Build) (s : List ℕ) (t l k : ℕ) (v : List ℕ) → Holds (λ _. length s ≡ store_size b) (setting b s t l k v)
 unfolding setting
-setting-whole b s t l k v = step _ λ whole. step _ λ _. step _ λ _. anyway (eqb-true _ _ whole) _
+setting-whole b s t l k v = step-test _ _ λ whole. step _ λ _. step _ λ _. anyway (eqb-true _ _ whole) _
 
 module _ (b : Build) (s : List ℕ) (t l k : ℕ) (v : List ℕ) where
   leaving-is : (c : Check (List Write)) → setting b s t l k v ≡ c → Holds (λ _. length s ≡ store_size b) c → Holds (Puts b system s) c

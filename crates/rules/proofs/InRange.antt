@@ -9,33 +9,14 @@ use mathlib.Core.List.{List, [], ◌∷◌}
 use borrow.Author.Tests.{eqb-true}
 use lib.ListN.{length}
 use lib.Dec.{eqb}
-use Rattle.base.specs.Check.{pass}
 use Rattle.base.specs.Lists.{All, only}
-use Rattle.points.specs.Types.{Build, logicals, point, height, row, segments}
+use Rattle.points.specs.Types.{Build, logicals, segments}
 use Rattle.points.specs.Place.{store_size}
-use Rattle.store.specs.Store.{value, Write, storing, stored}
-use Rattle.store.proofs.Laws.{Sound, Names, three?, names?, storing-there, storing_elsewhere, stored-length}
-use Rattle.values.specs.Judged.{judged}
+use Rattle.store.specs.Store.{value, Write, Names, storing, stored}
+use Rattle.store.proofs.Laws.{Sound, three?, names?, storing-there, storing_elsewhere, stored-length}
 use Rattle.values.specs.Pairs.{pair?, pair_of, paired, together}
 use Rattle.values.proofs.Paired.{pair_depends}
-
--- a value is in range: judged by its row, and its pair in store s
-abbrev pub Ranged : Build → List ℕ → Write → Type 0
-Ranged b s w =
-    (judged b (row w.type w.parameter) w.logical w.bytes ≡ pass tt) × (together b s w.type w.logical w.parameter ≡ true)
-
--- what a store holds at a parameter, as a value that could be stored there
-abbrev pub holding : Build → List ℕ → ℕ → ℕ → ℕ → Write
-holding b s i l k = record { type = i; logical = l; parameter = k; bytes = value b s i l k }
-
--- every value of a store is in range
-abbrev pub InRange : Build → List ℕ → Type 0
-InRange b s = (i l k : ℕ) → l < logicals b i → k < height (point i) → Ranged b s (holding b s i l k)
-
--- each of a list of values is in range in the store that it makes
-abbrev pub Judged : Build → List ℕ → List Write → Type 0
-Judged b s [] = Unit {0}
-Judged b s (w ∷ ws) = Ranged b (stored b s (w ∷ ws)) w × Judged b s ws
+use Rattle.rules.specs.InRange.{Ranged, holding, InRange, Judged}
 
 -- w is of the pair of parameter k of logical l of type 124
 abbrev Mates : Write → ℕ → ℕ → Type 0
@@ -71,7 +52,7 @@ module _ (b : Build) (s : List ℕ) (w : Write) (whole : length s ≡ store_size
       go true e old = pair-kept l k (rw (eqb-true i segments e) at h) old (mates? w l k)
       go false e old = refl
 
-  pub storing_in_range : InRange b (storing b s w)
+  storing_in_range : InRange b (storing b s w)
   storing_in_range i l k hl hk = go (names? w i l k)
     where
       go : Names w i l k ⊎ (Names w i l k → ⊥) → Ranged b (storing b s w) (holding b (storing b s w) i l k)

@@ -8,7 +8,7 @@ use borrow.Author.Tests.{leb-true}
 use lib.ListN.{length, get_or, drop, length-drop, length-take}
 use Rattle.base.specs.Check.{fault}
 use Rattle.base.specs.Lists.{part}
-use Rattle.base.proofs.Checks.{Holds, passing, step, anyway}
+use Rattle.base.proofs.Checks.{Holds, passing, step, anyway, step-test}
 use Rattle.points.specs.Types.{Build}
 use Rattle.frame.specs.Frame.{opcode, data_of}
 use Rattle.rules.specs.Asked.{Asked, Held}
@@ -31,7 +31,7 @@ spans-upto b d =
 -- what the fixed part of a list's request takes is there
 spans-long : (b : Build) (d : List ℕ) → Holds (λ _. 4 ≤ length d) (spans b d)
 unfolding spans
-spans-long b d = step _ λ e. step _ λ _. step _ λ _. anyway (leb-true _ _ e) _
+spans-long b d = step-test _ _ λ e. step _ λ _. step _ λ _. anyway (leb-true _ _ e) _
 
 counted-upto : (d : List ℕ) → Upto (length d) (counted d)
 unfolding counted
@@ -39,7 +39,7 @@ counted-upto d = ask _ _ (omega arith) λ _. last _ _ _ (omega arith)
 
 counted-long : (d : List ℕ) → Holds (λ _. 1 ≤ length d) (counted d)
 unfolding counted
-counted-long d = step _ λ e. anyway (leb-true _ _ e) _
+counted-long d = step-test _ _ λ e. anyway (leb-true _ _ e) _
 
 locates-upto : (b : Build) (d : List ℕ) → Upto (length d) (locates b d)
 unfolding locates
@@ -49,7 +49,7 @@ locates-upto b d =
 
 locates-long : (b : Build) (d : List ℕ) → Holds (λ _. 3 ≤ length d) (locates b d)
 unfolding locates
-locates-long b d = step _ λ e. step _ λ _. step _ λ _. step _ λ _. step _ λ _. passing (leb-true _ _ e)
+locates-long b d = step-test _ _ λ e. step _ λ _. step _ λ _. step _ λ _. step _ λ _. passing (leb-true _ _ e)
 
 module _ (b : Build) (L : ℕ) (h : Held) (d : List ℕ) where
   plan-upto : (o : Opcode) → Upto (length d) (plan b o L h d)

@@ -19,7 +19,8 @@ use Rattle.rules.specs.Entries.{system}
 use Rattle.rules.specs.Opcodes.{opcode_of}
 use Rattle.rules.specs.Answer.{Answer, sent, carried, planned, admitted, answer}
 use Rattle.rules.specs.System.{Left, leaving, system_write}
-use Rattle.rules.proofs.Agree.{Agree, lower, stored_same}
+use Rattle.rules.specs.Agree.{Agree}
+use Rattle.rules.proofs.Agree.{lower, stored_same}
 use Rattle.rules.proofs.Told.{told_same}
 use Rattle.rules.proofs.Walks.{Puts}
 use Rattle.rules.proofs.Lawful.{Lawful, lawful, setting-puts}

@@ -9,7 +9,8 @@ use Rattle.points.specs.Types.{Build, logicals, point, height}
 use Rattle.points.specs.Place.{store_size}
 use Rattle.store.proofs.Laws.{values_length}
 use Rattle.rules.specs.Deeds.{Piece, plain, held, shown, told, sizes}
-use Rattle.rules.proofs.Agree.{Agree, values_same}
+use Rattle.rules.specs.Agree.{Agree}
+use Rattle.rules.proofs.Agree.{values_same}
 
 -- a piece that level L may see: the parameters are of the build, and the level reads their type
 abbrev pub Readable : Build → ℕ → Piece → Type 0

@@ -7,14 +7,16 @@ use mathlib.Core.Bool.{Bool, true, false}
 use mathlib.Core.List.{List}
 use borrow.Author.Tests.{leb-true}
 use lib.ListN.{length, drop, length-drop}
+use Rattle.std.specs.Prelude.{Result, Ok, Err}
 use Rattle.base.specs.Check.{Check, fault, pass, ◌>>=◌, test, from}
-use Rattle.base.proofs.Checks.{Holds, passing, step}
+use Rattle.base.proofs.Checks.{Holds, passing, step, step-test, tested}
 use Rattle.points.specs.Row.{Row}
 use Rattle.points.specs.Types.{Build, Point}
 use Rattle.points.specs.Place.{len_at}
 use Rattle.points.specs.There.{there}
-use Rattle.points.specs.declared.Place.{Place}
-use Rattle.points.specs.declared.Place.TheVariants.{At, NoType, NoLogical, NoParameter}
+use Rattle.points.specs.declared.Spot.{Spot}
+use Rattle.points.specs.declared.Missing.{Missing}
+use Rattle.points.specs.declared.Missing.TheVariants.{NoPointType, NoLogical, NoParameter}
 use Rattle.store.specs.Store.{Write}
 use Rattle.values.specs.Judged.{judged}
 use Rattle.rules.specs.Deeds.{Piece}
@@ -44,15 +46,15 @@ module _ {N : ℕ} where
   follow (here h) k = here h
   follow nowhere k = k _
 
-  pub ask : {B : Type 0} {x : Bool} (n p : ℕ) {f : x ≡ true → Check B} → p ≤ N → ((e : x ≡ true) → Upto N (f e)) → Upto N (test x n p >>= f)
-  ask {x} n p h k = follow (last x n p h) k
+  pub ask : {B : Type 0} {x : Bool} (n p : ℕ) {y : Check B} → p ≤ N → (x ≡ true → Upto N y) → Upto N (test x n p >>= λ _. y)
+  ask {x} n p h k = follow_with (last x n p h) (tested x n p) λ _. k
 
-  pub there-upto : (q : Place) (pt pl pk : ℕ) → pt ≤ N → pl ≤ N → pk ≤ N → Upto N (there q pt pl pk)
+  pub there-upto : (q : Result Spot Missing) (pt pl pk : ℕ) → pt ≤ N → pl ≤ N → pk ≤ N → Upto N (there q pt pl pk)
   unfolding there
-  there-upto (At r a n) pt pl pk h k m = nowhere
-  there-upto NoType pt pl pk h k m = here h
-  there-upto NoLogical pt pl pk h k m = here k
-  there-upto NoParameter pt pl pk h k m = here m
+  there-upto (Ok spot) pt pl pk h k m = nowhere
+  there-upto (Err NoPointType) pt pl pk h k m = here h
+  there-upto (Err NoLogical) pt pl pk h k m = here k
+  there-upto (Err NoParameter) pt pl pk h k m = here m
 
   -- ---- an entry, in data d that begins at place at
 
@@ -95,7 +97,7 @@ module _ (N : ℕ) where
   next-long : (b : Build) (level : Point → ℕ) (who : Caller) (src : Source) (d : List ℕ) (at : ℕ) → Holds (λ _. spoken src ≤ length d) (next b level who src d at)
   unfolding next found
   next-long b level who (block i l k) d at = passing (omega arith)
-  next-long b level who named d at = step _ λ e. step _ λ _. step _ λ _. passing (leb-true _ _ e)
+  next-long b level who named d at = step-test _ _ λ e. step _ λ _. step _ λ _. passing (leb-true _ _ e)
   next-long b level who (located bs) d at = step _ λ _. step _ λ _. passing (omega arith)
 
   pub reading-upto : (b : Build) (who : Caller) (src : Source) (n : ℕ) (d : List ℕ) (at : ℕ) (ps : List Piece) → 1 ≤ N → at + length d ≤ N

@@ -10,16 +10,16 @@ use lib.ListN.{length}
 use lib.Seq.{length-take-le}
 use Rattle.base.specs.Check.{Check, fault, pass, from}
 use Rattle.base.specs.Lists.{All}
-use Rattle.base.proofs.Checks.{Holds, faulty, passing, step, step_with}
+use Rattle.base.proofs.Checks.{Holds, faulty, passing, step, step_with, step-test}
 use Rattle.points.specs.Types.{Build, point, row}
 use Rattle.points.specs.Place.{len_at}
 use Rattle.store.specs.Store.{Write, stored}
 use Rattle.store.proofs.Laws.{Sound}
 use Rattle.rules.specs.Deeds.{Piece, sizes}
 use Rattle.rules.specs.Entries.{Caller, request, reaches, may_write, Named, Source, after}
-use Rattle.rules.specs.Lists.{read_level, write_level, reading, entry, accepts, writing}
+use Rattle.rules.specs.Lists.{read_level, write_level, fitting, reading, entry, accepts, writing}
 use Rattle.rules.proofs.Told.{Readable}
-use Rattle.rules.proofs.InRange.{Ranged, Judged}
+use Rattle.rules.specs.InRange.{Ranged, Judged}
 use Rattle.rules.proofs.Found.{Stands, Reached, Ready, next-holds, ready-after}
 
 -- ---- reading
@@ -31,9 +31,9 @@ pub record Tells (b : Build) (L : ℕ) (ps : List Piece) : Type 0 where
 
 pub reading-tells : (b : Build) (L : ℕ) (src : Source) (n : ℕ) (d : List ℕ) (at : ℕ) (ps : List Piece) → Ready b read_level (request L) src n
     → All (Readable b L) ps → Holds (Tells b L) (reading b (request L) src n d at ps)
-unfolding reading
+unfolding reading fitting
 reading-tells b L src zero d at ps r q =
-    step _ λ _. step _ λ h. passing (record { readable = q; short = leb-true _ _ h })
+    step _ λ _. step-test _ _ λ h. passing (record { readable = q; short = leb-true _ _ h })
 reading-tells b L src (suc n) d at ps r q =
     step_with (next-holds b read_level (request L) src n d at r) λ p f.
     reading-tells b L (after src) n _ _ _ (ready-after b read_level (request L) src n r)
@@ -71,13 +71,13 @@ pub accepts-holds : (b : Build) (who : Caller) (s : List ℕ) (ws : List Write) 
     → Holds (λ _. Accepted b who s ws p d) (accepts b who s ws p d locked at)
 unfolding accepts
 accepts-holds b who s ws p d locked at =
-    step _ λ free. step _ λ long. step_with (itself at _) λ _ alone. step _ λ pair.
+    step-test _ _ λ free. step-test _ _ λ long. step_with (itself at _) λ _ alone. step-test _ _ λ pair.
     passing (record { free = free; long = leb-true _ _ long; ranged = (alone, pair) })
 
 pub entry-sound : (b : Build) (p : Named) (d : List ℕ) → Stands b p → len_at p.type p.parameter ≤ length d → Sound b (entry p d)
 entry-sound b p d w long = record { logical = w.logical; parameter = w.parameter; long = length-take-le _ _ long }
 
-pub one_more : (b : Build) (who : Caller) (s : List ℕ) (ws : List Write) (p : Named) (d : List ℕ) → Reached b write_level who p → Accepted b who s ws p d
+one_more : (b : Build) (who : Caller) (s : List ℕ) (ws : List Write) (p : Named) (d : List ℕ) → Reached b write_level who p → Accepted b who s ws p d
     → Puts b who s ws → Puts b who s (entry p d ∷ ws)
 one_more b who s ws p d f a c =
     record {

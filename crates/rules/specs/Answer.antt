@@ -1,13 +1,13 @@
 -- The whole answer to a request: outcome, reply length, store, clock and reply space, for any frame, store, clock, own address, level
 -- and reply space.
 -- Assumes nothing.
-use Rattle.std.specs.Prelude.{ℕ, Bool, cond, List, [], ◌∷◌, length, get_or, eqb}
+use Rattle.std.specs.Prelude.{ℕ, Bool, cond, List, [], ◌∷◌, length}
 use Rattle.base.specs.Check.{Check, fault, pass}
 use Rattle.base.specs.Lists.{over}
 use Rattle.points.specs.Types.{Build}
 use Rattle.store.specs.Store.{stored}
 use Rattle.frame.specs.Address.{source}
-use Rattle.frame.specs.Frame.{opcode, data_of, frame_of}
+use Rattle.frame.specs.Frame.{opcode, is_broadcast, data_of, frame_of}
 use Rattle.rules.specs.Asked.{Asked, Held}
 use Rattle.rules.specs.Received.{received}
 use Rattle.rules.specs.Deeds.{Deeds, told}
@@ -29,7 +29,7 @@ error_data number place = number ∷ place ∷ []
 
 -- a broadcast is acted on and not answered
 abbrev pub to_all : Asked → Bool
-to_all a = eqb (get_or a.frame 0 0) 0
+to_all a = is_broadcast a.frame
 
 -- the frame that is sent: the addresses swapped, with our own as its source
 unfoldable pub sent : Asked → ℕ → List ℕ → List ℕ

@@ -6,3 +6,5 @@ pub mod Lists
 pub mod Opcodes
 pub mod Answer
 pub mod System
+pub mod Agree
+pub mod InRange

@@ -1,6 +1,6 @@
 -- The two walks over a list of parameters: one to read, one to write. d is what is left of the data, which begins at place at.
 -- Assumes nothing.
-use Rattle.std.specs.Prelude.{ℕ, zero, suc, ◌+◌, ◌≡◌, true, List, ◌∷◌, length, take, drop, leb, eqb}
+use Rattle.std.specs.Prelude.{ℕ, zero, suc, ◌+◌, List, ◌∷◌, length, take, drop, leb, eqb}
 use Rattle.base.specs.Check.{Check, pass, ◌>>=◌, test, from}
 use Rattle.points.specs.Types.{Build, Point, row}
 use Rattle.points.specs.Place.{len_at}
@@ -17,11 +17,11 @@ abbrev pub write_level : Point → ℕ
 write_level p = p.writes
 
 -- spare bytes at the end
-unfoldable pub ends : (d : List ℕ) (at : ℕ) → Check (eqb (length d) 0 ≡ true)
+unfoldable pub ends : (d : List ℕ) (at : ℕ) → Check Unit
 ends d at = test (eqb (length d) 0) 21 at
 
 -- over 255 data bytes
-unfoldable pub fitting : (ps : List Piece) → Check (leb (sizes ps) 255 ≡ true)
+unfoldable pub fitting : (ps : List Piece) → Check Unit
 fitting ps = test (leb (sizes ps) 255) 28 0
 
 -- n entries are left to read; ps is the reply so far

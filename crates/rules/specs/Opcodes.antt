@@ -1,13 +1,14 @@
--- The eight opcodes, each a chain of checks in document 01's order with its places. d is the request's data.
+-- The eight opcodes, each a chain of checks in the rules' order with its places. d is the request's data.
 -- Assumes nothing.
-use Rattle.std.specs.Prelude.{ℕ, ◌+◌, ◌-◌, ◌≡◌, Bool, true, false, not, List, [], ◌∷◌, ◌++◌, length, get_or, take, drop, leb, ltb, eqb}
+use Rattle.std.specs.Prelude.{ℕ, ◌+◌, ◌-◌, Bool, true, false, not, List, [], ◌∷◌, ◌++◌, length, get_or, take, drop, leb, ltb, eqb}
 use Rattle.base.specs.Lists.{both}
 use Rattle.base.specs.Check.{Check, fault, pass, ◌>>=◌, test}
 use Rattle.clock.specs.Calendar.{first_year, last_year, month_days}
 use Rattle.clock.specs.Moments.{clock_of, weekday_at}
 use Rattle.points.specs.Types.{Build, logicals, point, height, index_of, tables}
 use Rattle.points.specs.Place.{place_of}
-use Rattle.points.specs.There.{There, there}
+use Rattle.points.specs.There.{there}
+use Rattle.points.specs.declared.Spot.{Spot}
 use Rattle.store.specs.Store.{Write, values}
 use Rattle.rules.specs.Asked.{Held}
 use Rattle.rules.specs.Deeds.{Piece, plain, held, Deeds}
@@ -51,7 +52,7 @@ abbrev pub last_of : List ℕ → ℕ
 last_of d = get_or d 3 0 + get_or d 2 0 - 1
 
 -- Every type has a parameter 0, so the first `there` finds type and logical; none of the block is missing where its last is there.
-unfoldable pub spans : (b : Build) (d : List ℕ) → Check (There (place_of b (get_or d 0 0) (get_or d 1 0) (last_of d)))
+unfoldable pub spans : (b : Build) (d : List ℕ) → Check Spot
 spans b d = do
   _ ← test (leb 4 (length d)) 21 (length d)
   _ ← there (place_of b (get_or d 0 0) (get_or d 1 0) 0) 0 1 3
@@ -80,7 +81,7 @@ plan166 b L h d =
 
 -- ---- 180 and 181: count, then three numbers for each
 
-unfoldable pub counted : (d : List ℕ) → Check (not (eqb (get_or d 0 0) 0) ≡ true)
+unfoldable pub counted : (d : List ℕ) → Check Unit
 counted d = do
   _ ← test (leb 1 (length d)) 21 0
   test (not (eqb (get_or d 0 0) 0)) 30 0
@@ -103,14 +104,14 @@ plan181 b L h d = do
 abbrev pub last_location : ℕ
 last_location = height (point tables) - 1
 
-unfoldable pub locates : (b : Build) (d : List ℕ) → Check (ltb (get_or d 0 0) (logicals b tables) ≡ true)
+unfoldable pub locates : (b : Build) (d : List ℕ) → Check Unit
 locates b d = do
   _ ← test (leb 3 (length d)) 21 (length d)
-  known ← test (ltb (get_or d 0 0) (logicals b tables)) 29 0
+  _ ← test (ltb (get_or d 0 0) (logicals b tables)) 29 0
   _ ← test (both (leb 1 (get_or d 1 0)) (leb (get_or d 1 0) last_location)) 29 1
   _ ← test (not (eqb (get_or d 2 0) 0)) 30 2
   _ ← test (leb (get_or d 1 0 + get_or d 2 0) (last_location + 1)) 29 2
-  pass known
+  pass tt
 
 -- the bytes of the locations, as they are stored when the request arrives
 abbrev pub locations : Build → Held → List ℕ → List ℕ

@@ -1,4 +1,4 @@
--- Outcomes 1 to 8: what is refused without a byte written, in document 01's order.
+-- Outcomes 1 to 8: what is refused without a byte written, in the rules' order.
 -- Assumes nothing.
 use Rattle.std.specs.Prelude.{ℕ, length, leb, eqb}
 use Rattle.base.specs.Check.{Check, pass, ◌>>=◌, test}

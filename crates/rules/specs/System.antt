@@ -2,8 +2,7 @@
 -- Assumes nothing.
 use Rattle.std.specs.Prelude.{ℕ, cond, List, [], length, eqb}
 use Rattle.base.specs.Check.{Check, fault, pass, ◌>>=◌, test}
-use Rattle.clock.specs.Moments.{clock_of, clock_bytes, tick}
-use Rattle.clock.specs.declared.Ticked.{Ticked}
+use Rattle.clock.specs.Moments.{clock_of, clock_bytes, Ticked, tick}
 use Rattle.points.specs.Types.{Build, index_of}
 use Rattle.points.specs.Place.{place_of, len_at, store_size}
 use Rattle.points.specs.There.{there}

@@ -13,7 +13,7 @@ use Rattle.base.proofs.Parts.{length-put, part-put, part_apart}
 use Rattle.points.specs.Types.{Build, logicals, point, height}
 use Rattle.points.specs.Place.{row_len, lens, offset, len_at, store_size}
 use Rattle.points.proofs.Laws.{fits, apart, next_parameter}
-use Rattle.store.specs.Store.{value, values, span_of, Write, storing, stored}
+use Rattle.store.specs.Store.{value, values, span_of, Write, Names, storing, stored}
 
 -- ---- one parameter
 
@@ -89,9 +89,6 @@ pub record Sound (b : Build) (w : Write) : Type 0 where
   pub logical : w.logical < logicals b w.type
   pub parameter : w.parameter < height (point w.type)
   pub long : length w.bytes ≡ len_at w.type w.parameter
-
-abbrev pub Names : Write → ℕ → ℕ → ℕ → Type 0
-Names w i l k = (w.type ≡ i) × (w.logical ≡ l) × (w.parameter ≡ k)
 
 -- three decisions as one
 pub three? : {A B C : Type 0} → Dec A → Dec B → Dec C → (A × B × C) ⊎ ((A × B × C) → ⊥)

@@ -1,7 +1,7 @@
 -- The store as a list of bytes: what a parameter holds, and the store once values are stored.
 -- All that stands above goes by these definitions and their laws, and speaks of no offset.
 -- Assumes nothing.
-use Rattle.std.specs.Prelude.{ℕ, zero, suc, List, [], ◌∷◌, ◌++◌, take, drop}
+use Rattle.std.specs.Prelude.{ℕ, zero, suc, ◌≡◌, List, [], ◌∷◌, ◌++◌, take, drop}
 use Rattle.base.specs.Lists.{part, put, sum}
 use Rattle.points.specs.Types.{Build, point}
 use Rattle.points.specs.Place.{lens, offset, len_at}
@@ -25,6 +25,10 @@ pub record Write : Type 0 where
   pub logical : ℕ
   pub parameter : ℕ
   pub bytes : List ℕ
+
+-- the value is for this parameter
+abbrev pub Names : Write → ℕ → ℕ → ℕ → Type 0
+Names w i l k = (w.type ≡ i) × (w.logical ≡ l) × (w.parameter ≡ k)
 
 -- the store with one value stored
 unfoldable pub storing : Build → List ℕ → Write → List ℕ

@@ -1,45 +1,58 @@
-// System write: one value stored by the system, which may write what is read-only.
+//! System write: one value stored by the system, which may write what is read-only.
 #![tactic(auto)]
 
-ghost use Rattle.std.specs.Prelude.{◌≡◌};
+ghost use Rattle.std.specs.Prelude.{◌≡◌, IfOk};
+ghost use Rattle.faults.specs.Faults.{outcome_of};
 ghost use Rattle.points.specs.Types.{gateway};
-ghost use Rattle.rules.specs.System.{system_write};
+ghost use Rattle.rules.specs.System.{system_write, setting, leaving};
+ghost use Rattle.system.specs.One.{one_of, named};
 
-use lists::{Caller, Checked, Source};
-use points::{Logical, Parameter, Place, PointType};
+use faults::{Refusal, refuse_unless};
+use lists::{Block, Caller};
+use points::{Count, Tlp};
+use store::Store;
 
-// Document 01: the store has 12,427 bytes.
-const STORE_SIZE: usize = 12_427;
-
-// 2, 22, 23, 24, 21, 27, in that order; then the value is a list of one, and is checked and stored as a block of one parameter.
-pub fn system_write(store: &mut [u8], t: PointType, l: Logical, p: Parameter, value: &[u8]) -> u8
-    ensures { record { outcome = result; store = store.new } ≡ system_write gateway store.old t.0 l.0 p.0 value.now }
+/// The list of one that three numbers name.
+#[tactic(auto, unfolding(crate::specs::One::named, points::specs::There::there, base::specs::Check::checks), using(points::proofs::Cases::no_type, points::proofs::Cases::of_type))]
+fn one(tlp: Tlp) -> Result<Block, Refusal>
+    ensures is { one_of result ≡ named tlp.point.0 tlp.logical.0 tlp.parameter.0 }
+    ensures one { IfOk result (λ block. block.count.0 ≡ 1) }
 {
-    if store.len() != STORE_SIZE {
-        return 2;
-    }
-    let place = points::locate(t, l, p);
-    match place {
-        Place::NoType => 22,
-        Place::NoLogical => 23,
-        Place::NoParameter => 24,
-        Place::At(_, _, len) => {
-            if value.len() != len {
-                return 21;
-            }
-            let src = Source::Block(points::index_of(t), l.0, p.0);
-            let who = Caller {
-                level: 0,
-                system: true,
-            };
-            let verdict = writes::check(src, 1, 0, who, value, value, &store[..]);
-            match verdict {
-                Checked::Fault(number, _) => number,
-                Checked::Pass(_) => {
-                    writes::keep(src, 1, 0, who, value, value, store);
-                    0
-                }
-            }
-        }
-    }
+    let index = points::index_of(tlp.point).ok_or(Refusal::NoPointType)?;
+    let logicals = points::logicals_of(index);
+    refuse_unless(tlp.logical.0 < logicals, Refusal::NoLogical)?;
+    let height = points::height_of(index);
+    refuse_unless(tlp.parameter.0 < height, Refusal::NoParameter)?;
+    Ok(Block {
+        index,
+        logical: tlp.logical,
+        start: tlp.parameter,
+        count: Count(1),
+    })
+}
+
+/// The value stored, in a store that is whole.
+#[tactic(auto, unfolding(rules::specs::System::leaving, base::specs::Check::checks), using(crate::proofs::Setting::setting_rows))]
+fn set(store: &mut Store, tlp: Tlp, value: &[u8]) -> Result<(), Refusal>
+    ensures { record { outcome = outcome_of result; store = store.new } ≡ leaving gateway store.old (setting gateway store.old tlp.point.0 tlp.logical.0 tlp.parameter.0 value.now) }
+{
+    let block = one(tlp)?;
+    let spot = points::spot_at(block.index, block.logical, block.start);
+    refuse_unless(value.len() == spot.len, Refusal::Length)?;
+    writes::check(&block, Caller::System, value, 0, store).map_err(|fault| fault.refusal)?;
+    writes::keep(&block, Caller::System, value, 0, store);
+    Ok(())
+}
+
+/// Stores the value of a parameter in a store of 12,427 bytes. It is refused, in this order, for `StoreLength`, for what names nothing
+/// (`NoPointType`, `NoLogical`, `NoParameter`), for `Length` where it is not as long as the parameter, and for `OutOfRange`; then the store
+/// stays as it was.
+#[tactic(auto, unfolding(rules::specs::System::system_write), using(crate::proofs::Setting::short_store))]
+pub fn system_write(store: &mut [u8], tlp: Tlp, value: &[u8]) -> Result<(), Refusal>
+    ensures { record { outcome = outcome_of result; store = store.new } ≡ system_write gateway store.old tlp.point.0 tlp.logical.0 tlp.parameter.0 value.now }
+{
+    let store = store
+        .as_mut_array::<{ store::LENGTH }>()
+        .ok_or(Refusal::StoreLength)?;
+    set(store, tlp, value)
 }

@@ -1,12 +1,9 @@
 pub mod Paired
-pub mod Signs
 pub mod Nans
-pub mod Ranges
-pub mod Named
 pub mod Table
 pub mod Widths
-pub mod Judging
-pub mod Mates
-pub mod Verdicts
 pub mod Read
 pub mod SameReading
+pub mod Named
+pub mod Mates
+pub mod Verdicts

@@ -8,7 +8,7 @@ use Rattle.base.specs.Bytes.{le}
 use Rattle.base.proofs.Checks.{Holds, faulty, passing, step, step_same, then_then}
 use Rattle.points.specs.Row.{Kind, text, unsigned, signed, single, double, tlp}
 use Rattle.points.specs.Types.{Build}
-use Rattle.values.specs.declared.Number.{Number}
+use Rattle.values.specs.declared.readings.Number.{Number}
 use Rattle.values.specs.Number.{said, number_read, Raw, raw, number_of, kind_of, raw_read}
 
 -- what a raw answer says
@@ -30,7 +30,7 @@ unfolding number_read raw_read
 number_raw b s t l k =
     step_same _ (λ _. step_same _ (λ _. raw-said _ _) ∙ sym (then_then _ _ saying)) ∙ sym (then_then _ _ saying)
 
--- document 01: a number read "keeps which" of the four it is
+-- a number read "keeps which" of the four it is
 pub record Keeps (r : Raw) : Type 0 where
   pub which : kind_of (number_of r.kind r.bits) ≡ r.kind
 

@@ -1,46 +1,34 @@
--- The cases of the weighing: by its row, then with its mate.
+-- A value weighed has one fault, at the place that it has.
 -- Assumes nothing.
-use mathlib.Core.Path.{◌≡◌, refl}
-use mathlib.Core.Bool.{Bool, true, false, cond}
+use mathlib.Core.Path.{◌≡◌, refl, sym, ap}
+use mathlib.Core.Bool.{Bool, true, false}
 use mathlib.Core.List.{List}
-use Prim.Native.Nat.{ℕ}
-use Rattle.base.specs.Check.{Check, pass, ◌>>=◌, test}
-use Rattle.points.specs.Types.{gateway}
+use Prim.Native.Nat.{ℕ, ◌+◌}
+use native.Mathlib.Omega.{arith}
+use Rattle.base.specs.Check.{Check, fault, pass, ◌>>=◌, test, from}
+use Rattle.base.specs.Lists.{both}
+use Rattle.faults.specs.Faults.{check_of, required}
+use Rattle.faults.specs.declared.Refusal.TheVariants.{OutOfRange}
+use Rattle.points.specs.Types.{Build}
 use Rattle.points.specs.Columns.{row_at}
 use Rattle.values.specs.Kinds.{of_kind}
 use Rattle.values.specs.Judged.{in_range, judged}
-use Rattle.values.specs.Weighed.{mated, weighed, judgement_of}
-use Rattle.values.specs.Weighable.{passes}
-use Rattle.values.specs.declared.Judgement.{Judgement}
-use Rattle.values.specs.declared.Judgement.TheVariants.{Fine, Bad}
+use Rattle.values.specs.Weighed.{mated, weighed}
 
-verdict : Bool → Bool → Judgement
-verdict x y = cond x (cond y Fine (Bad 27 0)) (Bad 27 0)
+at : (n p : ℕ) → ◌≡◌ {A = Check Unit} (fault n (p + 0)) (fault n p)
+at n p = let z : p + 0 ≡ p = omega arith in ap (fault n) z
 
-in_turn : (x y z : Bool) → let c : Check Unit = test x 27 0 >>= λ _. test y 27 0 >>= λ _. pass tt in
-    verdict (passes c) z ≡ judgement_of (c >>= λ _. test z 27 0 >>= λ _. pass tt)
-unfolding verdict passes judgement_of test ◌>>=◌
-in_turn true true true = refl
-in_turn true true false = refl
-in_turn true false z = refl
-in_turn false y z = refl
+abbrev done : Check Unit
+done = pass tt
 
-module _ (s : List ℕ) (r l : ℕ) (v : List ℕ) (x : Bool) (e : x ≡ passes (judged gateway (row_at r) l v)) where
-  judgement : (y : Bool) → y ≡ mated gateway s r l v → verdict x y ≡ judgement_of (weighed gateway s r l v)
-  unfolding weighed judged
-  judgement y f = rw (e, f) (in_turn (of_kind gateway (row_at r).kind v) (in_range gateway (row_at r).range l v) (mated gateway s r l v))
-
-  pub weigh_unfit : x ≡ false → Bad 27 0 ≡ judgement_of (weighed gateway s r l v)
-  unfolding verdict
-  weigh_unfit h = rw (← judgement _ refl, h)
-
-  module _ (h : x ≡ true) (y : Bool) (f : y ≡ mated gateway s r l v) where
-    pub weigh_unmated : y ≡ false → Bad 27 0 ≡ judgement_of (weighed gateway s r l v)
-    unfolding verdict
-    weigh_unmated g = rw (← judgement y f, h, g)
-
-    pub weigh_fine : y ≡ true → Fine ≡ judgement_of (weighed gateway s r l v)
-    unfolding verdict
-    weigh_fine g = rw (← judgement y f, h, g)
-
-pub ruleset weigh_cases = (weigh_unfit, weigh_unmated, weigh_fine)
+pub weighed_if : (b : Build) (s : List ℕ) (r l : ℕ) (v : List ℕ) (p : ℕ) (x : Bool)
+    → x ≡ both (of_kind b (row_at r).kind v) (both (in_range b (row_at r).range l v) (mated b s r l v))
+    → check_of (required x OutOfRange p) ≡ from p (weighed b s r l v)
+unfolding weighed judged from test ◌>>=◌
+weighed_if b s r l v p x e = rw e (go (of_kind b (row_at r).kind v) (in_range b (row_at r).range l v) (mated b s r l v))
+  where
+    go : (x y z : Bool) → check_of (required (both x (both y z)) OutOfRange p) ≡ from p ((test x 27 0 >>= λ _. test y 27 0 >>= λ _. done) >>= λ _. test z 27 0 >>= λ _. done)
+    go true true true = refl
+    go true true false = sym (at 27 p)
+    go true false z = sym (at 27 p)
+    go false y z = sym (at 27 p)

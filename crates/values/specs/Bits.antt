@@ -3,28 +3,34 @@
 use Rattle.std.specs.Prelude.{ℕ, List, length, eqb}
 use Rattle.base.specs.Check.{Check, fault, pass, ◌>>=◌, test}
 use Rattle.base.specs.Bytes.{le}
-use Rattle.points.specs.Row.{Kind, text, unsigned, signed, single, double, tlp}
 use Rattle.points.specs.Types.{Build, index_of, row}
+use Rattle.points.specs.Columns.{kind_of}
 use Rattle.points.specs.Place.{place_of, store_size}
 use Rattle.points.specs.There.{there}
+use Rattle.points.specs.declared.Kind.{Kind}
+use Rattle.points.specs.declared.Kind.TheVariants.{Text, Unsigned, Signed, Single, Double, Tlp}
+use Rattle.points.specs.declared.Missing.{Missing}
+use Rattle.points.specs.declared.Missing.TheVariants.{NoPointType, NoLogical, NoParameter}
 use Rattle.store.specs.Store.{value}
-use Rattle.values.specs.declared.Bits.{Bits}
-use Rattle.values.specs.declared.Bits.TheVariants.{OfUnsigned, OfSigned, OfSingle, OfDouble, No}
+use Rattle.values.specs.declared.readings.Bits.{Bits}
+use Rattle.values.specs.declared.readings.Bits.TheVariants as bits
 
-unfoldable pub bits_of : Kind → List ℕ → Bits
-bits_of text v = No 27
-bits_of unsigned v = OfUnsigned (le v)
-bits_of signed v = OfSigned (le v)
-bits_of single v = OfSingle (le v)
-bits_of double v = OfDouble (le v)
-bits_of tlp v = No 27
+unfoldable pub bits_of : Kind → List ℕ → Check Bits
+bits_of Text v = fault 27 0
+bits_of Unsigned v = pass (bits.Unsigned (le v))
+bits_of Signed v = pass (bits.Signed (le v))
+bits_of Single v = pass (bits.Single (le v))
+bits_of Double v = pass (bits.Double (le v))
+bits_of Tlp v = fault 27 0
+
+-- which outcome a number that names nothing has
+abbrev pub number_missing : Missing → ℕ
+number_missing NoPointType = 22
+number_missing NoLogical = 23
+number_missing NoParameter = 24
 
 unfoldable pub bits_read : Build → List ℕ → ℕ → ℕ → ℕ → Check Bits
 bits_read b s t l k = do
   _ ← test (eqb (length s) (store_size b)) 2 0
   _ ← there (place_of b t l k) 0 0 0
-  pass (bits_of (row (index_of t) k).kind (value b s (index_of t) l k))
-
-unfoldable pub bits_in : Check Bits → Bits
-bits_in (fault n p) = No n
-bits_in (pass x) = x
+  bits_of (kind_of (row (index_of t) k).kind) (value b s (index_of t) l k)

@@ -5,7 +5,11 @@ use Rattle.std.specs.Int.Signed.{le_z, lt_z}
 use Rattle.base.specs.Check.{Check, pass, ◌>>=◌, test}
 use Rattle.base.specs.Lists.{both, either, only}
 use Rattle.base.specs.Bytes.{le}
-use Rattle.points.specs.Row.{Row, Range, any, between, status, rate, size, number}
+use Rattle.points.specs.Row as Row
+use Rattle.points.specs.Row.{Row}
+use Rattle.points.specs.Columns.{range_of}
+use Rattle.points.specs.declared.Range.{Range}
+use Rattle.points.specs.declared.Range.TheVariants.{Any, Between, Status, Rate, Size, Number}
 use Rattle.points.specs.Types.{Build}
 use Rattle.values.specs.Kinds.{signed_of, number_tlp, of_kind}
 
@@ -27,13 +31,16 @@ rate_ok n = among rates n
 unfoldable pub size_ok : ℕ → ℕ → Bool
 size_ok l n = both (leb n 240) (only (eqb l 0) (eqb n 240))
 
-unfoldable pub in_range : Build → Range → ℕ → List ℕ → Bool
-in_range b any l v = true
-in_range b (between least most) l v = both (leb least (le v)) (leb (le v) most)
-in_range b status l v = status_ok (le v)
-in_range b rate l v = rate_ok (le v)
-in_range b size l v = size_ok l (le v)
-in_range b number l v = number_tlp b v
+abbrev pub range_allows : Build → Range → ℕ → List ℕ → Bool
+range_allows b Any l v = true
+range_allows b (Between least most) l v = both (leb least (le v)) (leb (le v) most)
+range_allows b Status l v = status_ok (le v)
+range_allows b Rate l v = rate_ok (le v)
+range_allows b Size l v = size_ok l (le v)
+range_allows b Number l v = number_tlp b v
+
+unfoldable pub in_range : Build → Row.Range → ℕ → List ℕ → Bool
+in_range b q l v = range_allows b (range_of q) l v
 
 -- a value for logical l of a parameter with row r
 unfoldable pub judged : Build → Row → ℕ → List ℕ → Check Unit

@@ -5,3 +5,4 @@ pub mod Number
 pub mod Weighed
 pub mod Weighable
 pub mod Bits
+pub mod Raws

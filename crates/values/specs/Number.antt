@@ -11,10 +11,8 @@ use Rattle.points.specs.Place.{place_of, store_size}
 use Rattle.points.specs.There.{there}
 use Rattle.store.specs.Store.{value}
 use Rattle.values.specs.Kinds.{signed_of}
-use Rattle.values.specs.declared.Number.{Number}
-use Rattle.values.specs.declared.Number.TheVariants.{Unsigned, Signed, Single, Double}
-use Rattle.values.specs.declared.Reading.{Reading}
-use Rattle.values.specs.declared.Reading.TheVariants.{Got, Refused}
+use Rattle.values.specs.declared.readings.Number.{Number}
+use Rattle.values.specs.declared.readings.Number.TheVariants.{Unsigned, Signed, Single, Double}
 
 -- what the bytes of a kind say; 27 for text and TLP
 unfoldable pub said : Kind → List ℕ → Check Number
@@ -32,7 +30,11 @@ number_read b s t l k = do
   _ ← there (place_of b t l k) 0 0 0
   said (row (index_of t) k).kind (value b s (index_of t) l k)
 
--- as the answer of the call
+-- what the call answers: the number, or the outcome that refuses it
+pub data Reading : Type 0 where
+  Got : Number → Reading
+  Refused : ℕ → Reading
+
 unfoldable pub reading_of : Check Number → Reading
 reading_of (fault n p) = Refused n
 reading_of (pass x) = Got x

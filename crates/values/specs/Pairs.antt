@@ -1,6 +1,6 @@
 -- The pairs of type 124: parameters that are judged together, whichever of the two is written.
 -- Assumes nothing.
-use Rattle.std.specs.Prelude.{ℕ, Bool, true, List, [], ◌∷◌, get_or, leb, ltb, eqb}
+use Rattle.std.specs.Prelude.{ℕ, Bool, true, false, List, [], ◌∷◌, get_or, leb, ltb, eqb}
 use Rattle.base.specs.Lists.{both, either, only}
 use Rattle.base.specs.Bytes.{le}
 use Rattle.points.specs.Types.{Build, segments}
@@ -14,6 +14,16 @@ pub data Pair : Type 0 where
 unfoldable pub pair_of : ℕ → Pair
 pair_of k =
     get_or (none ∷ sizes ∷ none ∷ periodic ∷ daily ∷ periodic ∷ daily ∷ none ∷ none ∷ none ∷ none ∷ none ∷ sizes ∷ none ∷ []) k none
+
+-- whether the parameter has a mate
+abbrev pub mates : Pair → Bool
+mates none = false
+mates sizes = true
+mates periodic = true
+mates daily = true
+
+abbrev pub in_pair : ℕ → Bool
+in_pair k = mates (pair_of k)
 
 -- an index is below its count, or zero where the count is zero
 abbrev pub under : ℕ → ℕ → Bool

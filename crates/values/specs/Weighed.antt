@@ -1,7 +1,7 @@
 -- A value weighed by its row's number, as the code goes by rows: judged by its row, then with its mate as the store has it.
 -- Assumes nothing.
 use Rattle.std.specs.Prelude.{ℕ, ◌-◌, Bool, cond, List, leb, eqb}
-use Rattle.base.specs.Check.{Check, fault, pass, ◌>>=◌, test}
+use Rattle.base.specs.Check.{Check, pass, ◌>>=◌, test}
 use Rattle.base.specs.Lists.{only}
 use Rattle.points.specs.Types.{Build, segments}
 use Rattle.points.specs.Place.{first}
@@ -9,8 +9,6 @@ use Rattle.points.specs.Columns.{row_at}
 use Rattle.store.specs.Store.{value}
 use Rattle.values.specs.Judged.{judged}
 use Rattle.values.specs.Pairs.{pair_of, paired}
-use Rattle.values.specs.declared.Judgement.{Judgement}
-use Rattle.values.specs.declared.Judgement.TheVariants.{Fine, Bad}
 
 -- what the parameters of a segment hold, with v at k
 abbrev pub changed : ℕ → List ℕ → (ℕ → List ℕ) → ℕ → List ℕ
@@ -26,8 +24,3 @@ weighed b s r l v = do
   _ ← judged b (row_at r) l v
   _ ← test (mated b s r l v) 27 0
   pass tt
-
--- as the answer of the call
-unfoldable pub judgement_of : Check Unit → Judgement
-judgement_of (fault n p) = Bad n p
-judgement_of (pass x) = Fine

@@ -1,152 +1,99 @@
-// What a value may be, and what it says as a number.
+//! What a value may be, and what it says as a number.
 #![tactic(auto)]
 
 mod pairs;
-pub mod readings;
+mod ranges;
+mod readings;
 mod tlps;
-pub mod weighing;
+mod weighing;
 
-ghost use Rattle.std.specs.Prelude.{◌≡◌, leb};
+ghost use Rattle.std.specs.Prelude.{◌≡◌, ◌<◌, ◌^◌, true, length};
 ghost use Rattle.std.specs.Float.{binary32, binary64};
 ghost use Rattle.std.specs.Float.Ieee.{of_bits};
-ghost use Rattle.base.specs.Lists.{both};
+ghost use Rattle.base.specs.Bytes.{le};
 ghost use Rattle.values.specs.Kinds.{printable, signed_of, finite32, finite64};
-ghost use Rattle.values.specs.Judged.{status_ok, rate_ok, size_ok};
-ghost use Rattle.values.specs.Pairs.{under};
+ghost use Rattle.values.specs.Weighable.{unsigned_long};
 
-pub use readings::{number_read, raw_read};
-pub use tlps::{number_tlp_ok, tlp_ok};
+pub use pairs::{pair_ok, under};
+pub use ranges::{range_allows, rate_ok, size_ok, status_ok};
+pub use readings::{Number, NumberKind, Raw, number_read, raw_read};
+pub use tlps::{number_tlp_ok, tlp_of, tlp_ok};
 pub use weighing::weigh;
 
-// A parameter read as a number keeps which kind it is.
-#[derive(Clone, Copy)]
-pub enum Number {
-    Unsigned(u32),
-    Signed(i8),
-    Single(f32),
-    Double(f64),
-}
-
-// What a number read answers: the number, or the outcome that refuses it.
-#[derive(Clone, Copy)]
-pub enum Reading {
-    Got(Number),
-    Refused(u8),
-}
-
-// The bits of a number as they are stored, by its kind, or the outcome that refuses it. The widths are what both readings go by.
-#[derive(Clone, Copy)]
-enum Bits {
-    OfUnsigned(u32),
-    OfSigned(u8),
-    OfSingle(u32),
-    OfDouble(u64),
-    No(u8),
-}
-
-// What judging a value answers: fine, or the number of its fault with an offset into the value.
-#[derive(Clone, Copy)]
-pub enum Judgement {
-    Fine,
-    Bad(u8, u8),
-}
-
-// Text bytes are 0x20 to 0x7E in every type.
-pub fn printable(b: u8) -> bool
-    ensures { result ≡ printable b }
+/// Whether a byte may stand in a text: 0x20 to 0x7E, in every type.
+pub fn printable(byte: u8) -> bool
+    ensures { result ≡ printable byte }
 {
-    0x20 <= b && b <= 0x7e
+    (0x20..=0x7e).contains(&byte)
 }
 
-// `b as i8` asks that b is below 128, so the other half is worked out.
-pub fn signed(b: u8) -> i8
-    ensures { result ≡ signed_of b }
+/// The number that one, two or four bytes say, least significant first.
+#[tactic(auto, using(base::proofs::Parts::part_all))]
+pub fn unsigned(value: &[u8]) -> u32
+    requires { unsigned_long (length value.now) ≡ true }
+    ensures is { result ≡ le value.now }
+    ensures small { result < 256 ^ length value.now }
 {
-    if b < 128 {
-        b as i8
-    } else {
-        -1 - ((255 - b) as i8)
+    match value {
+        [_] => base::byte_at(value, 0),
+        [_, _] => u32::from(base::word_at(value, 0)),
+        _ => base::long_at(value, 0),
     }
 }
 
-// From -1 to 5, so that 255 is in and 128 is not.
-#[tactic(auto, unfolding(crate::specs::Judged::status_ok))]
-pub fn status_ok(b: u8) -> bool
-    ensures { result ≡ status_ok b }
+/// The same of eight bytes.
+#[tactic(auto, using(base::proofs::Parts::part_all))]
+pub fn quad(value: &[u8]) -> u64
+    requires { length value.now ≡ 8 }
+    ensures { result ≡ le value.now }
 {
-    let x = signed(b);
-    if x < -1 {
-        return false;
-    }
-    x <= 5
+    base::quad_at(value, 0)
 }
 
-// A test of the exponent's field alone: minus zero and subnormals are finite.
+/// A byte in two's complement.
+#[tactic(auto, unfolding(crate::specs::Kinds::signed_of))]
+pub fn signed(byte: u8) -> i8
+    ensures { result ≡ signed_of byte }
+{
+    i8::from_le_bytes([byte])
+}
+
+/// Whether the pattern of a single is finite. A test of the exponent's field alone: minus zero and subnormals are finite.
+#[tactic(auto, unfolding(crate::specs::Kinds::finite32))]
 pub fn finite32(n: u32) -> bool
     ensures { result ≡ finite32 n }
 {
     n / 0x800000 % 256 != 255
 }
 
+/// The same of a double's pattern.
+#[tactic(auto, unfolding(crate::specs::Kinds::finite64))]
 pub fn finite64(n: u64) -> bool
     ensures { result ≡ finite64 n }
 {
     n / 0x10000000000000 % 2048 != 2047
 }
 
-// The float of a pattern. `from_bits` takes no NaN's pattern: those lie above infinity's, signs aside, and are all the one value 0.0 / 0.0.
+/// The single of a pattern. `from_bits` takes no NaN's pattern: those lie above infinity's, signs aside, and are all the one value NAN.
 #[tactic(auto, using(crate::proofs::Nans::nans))]
 pub fn single(n: u32) -> f32
     ensures { result ≡ of_bits binary32 n }
 {
     if 0x7f800000 < n % 0x80000000 {
-        0.0 / 0.0
+        f32::NAN
     } else {
         f32::from_bits(n)
     }
 }
 
+/// The double of a pattern, likewise.
 #[tactic(auto, using(crate::proofs::Nans::nans))]
 pub fn double(n: u64) -> f64
     ensures { result ≡ of_bits binary64 n }
 {
     if 0x7ff0000000000000 < n % 0x8000000000000000 {
-        0.0 / 0.0
+        f64::NAN
     } else {
         f64::from_bits(n)
     }
-}
-
-// The twelve sample rates.
-pub fn rate_ok(n: u32) -> bool
-    ensures { result ≡ rate_ok n }
-{
-    match n {
-        1 | 2 | 3 | 4 | 5 | 6 | 10 | 12 | 15 | 20 | 30 | 60 => true,
-        _ => false,
-    }
-}
-
-// On logical 0 the size is 240 only, on the others at most 240.
-pub fn size_ok(l: u8, n: u32) -> bool
-    ensures { result ≡ size_ok l n }
-{
-    if l == 0 {
-        return n == 240;
-    }
-    n <= 240
-}
-
-// A range has both its ends.
-pub fn within(least: u32, most: u32, n: u32) -> bool
-    ensures { result ≡ both (leb least n) (leb n most) }
-{
-    least <= n && n <= most
-}
-
-// An index is below its count, or zero where the count is zero.
-pub fn under(index: u32, count: u32) -> bool
-    ensures { result ≡ under index count }
-{
-    index < count || index == 0 && count == 0
 }

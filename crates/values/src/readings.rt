@@ -1,111 +1,127 @@
-// A parameter read as a number: for Rust as the number that it says, for C as its bits with their kind.
-ghost use Rattle.std.specs.Prelude.{◌≡◌, true, ◌+◌, ◌^◌, ◌<◌, ◌≤◌, length};
-ghost use Rattle.base.specs.Bytes.{le};
-ghost use Rattle.base.specs.Lists.{part};
+//! A parameter read as a number: for Rust as the number that it says, for C as its bits with their kind.
+ghost use Rattle.std.specs.Prelude.{◌≡◌, true, length};
+ghost use Rattle.faults.specs.Faults.{number_of, refusal_check};
 ghost use Rattle.points.specs.Types.{gateway};
-ghost use Rattle.points.specs.Columns.{row_at};
-ghost use Rattle.values.specs.Number.{number_read, reading_of, raw_read, telling};
-ghost use Rattle.values.specs.Bits.{bits_of, bits_read, bits_in};
-ghost use Rattle.values.specs.Weighable.{unsigned_long};
+ghost use Rattle.values.specs.Number.{number_read, raw_read};
+ghost use Rattle.values.specs.Bits.{bits_of, bits_read, number_missing};
+ghost use Rattle.values.specs.Raws.{code_of, raw_check};
+ghost use Rattle.values.specs.Weighable.{kind_long};
 
-use crate::{Bits, Number, Reading, double, signed, single};
-use points::{Logical, Parameter, Place, PointType};
+use crate::{double, quad, signed, single, unsigned};
+use faults::Refusal;
+use points::{Kind, Missing, Tlp};
+use store::Store;
 
-const STORE_SIZE: usize = 12_427;
-
-// The bound is what a range without ends of its own allows.
-pub fn unsigned_at(s: &[u8], at: usize, n: u8) -> u32
-    requires { (unsigned_long n ≡ true) × (at + n ≤ length s.now) }
-    ensures { (result ≡ le (part s.now at n)) × (result < 256 ^ n) }
-{
-    if n == 1 {
-        return s[at] as u32;
-    }
-    if n == 2 {
-        return base::word_at(s, at) as u32;
-    }
-    base::long_at(s, at)
+/// A parameter read as a number keeps which kind it is.
+#[derive(Clone, Copy, Debug, PartialEq)]
+pub enum Number {
+    Unsigned(u32),
+    Signed(i8),
+    Single(f32),
+    Double(f64),
 }
 
-// Outcome 27: text and TLP are no numbers.
-fn bits_at(s: &[u8], row: usize, at: usize) -> Bits
-    requires { (row < 175) × (at + (row_at row).len ≤ length s.now) }
-    ensures { result ≡ bits_of (row_at row).kind (part s.now at (row_at row).len) }
+/// Which of the four a number is. The discriminant is what C is told.
+#[derive(Clone, Copy, Debug, PartialEq, Eq)]
+pub enum NumberKind {
+    Unsigned = 0,
+    Signed = 1,
+    Single = 2,
+    Double = 3,
+}
+
+impl NumberKind {
+    /// What C is told for it.
+    pub fn code(self) -> u8
+        ensures { result ≡ code_of self }
+    {
+        self as u8
+    }
+}
+
+/// A number as its bits are stored, zeros above them, with its kind.
+#[derive(Clone, Copy, Debug, PartialEq, Eq)]
+pub struct Raw {
+    pub kind: NumberKind,
+    pub bits: u64,
+}
+
+/// The bits of a number as they are stored, by its kind. The widths are what both readings go by.
+#[derive(Clone, Copy)]
+enum Bits {
+    Unsigned(u32),
+    Signed(u8),
+    Single(u32),
+    Double(u64),
+}
+
+/// Text and TLP are no numbers: `OutOfRange`.
+#[tactic(auto, using(crate::proofs::Widths::le_one), unfolding(crate::specs::Bits::bits_of, crate::specs::Weighable::kind_long))]
+fn bits_of(kind: Kind, value: &[u8]) -> Result<Bits, Refusal>
+    requires { kind_long kind (length value.now) ≡ true }
+    ensures { refusal_check result ≡ bits_of kind value.now }
 {
-    let kind = points::kind_at(row);
     match kind {
-        1 => Bits::OfUnsigned(unsigned_at(s, at, points::length_at(row))),
-        2 => Bits::OfSigned(s[at]),
-        3 => Bits::OfSingle(base::long_at(s, at)),
-        4 => Bits::OfDouble(base::quad_at(s, at)),
-        _ => Bits::No(27),
+        Kind::Unsigned => Ok(Bits::Unsigned(unsigned(value))),
+        Kind::Signed => Ok(Bits::Signed(value[0])),
+        Kind::Single => Ok(Bits::Single(unsigned(value))),
+        Kind::Double => Ok(Bits::Double(quad(value))),
+        Kind::Text | Kind::Tlp => Err(Refusal::OutOfRange),
     }
 }
 
-// Outcomes 2, 22, 23, 24 and 27, in that order.
-fn held(store: &[u8], t: PointType, l: Logical, p: Parameter) -> Bits
-    ensures { result ≡ bits_in (bits_read gateway store.now t.0 l.0 p.0) }
+/// Which number of a parameter names nothing, as a refusal.
+fn refusal_of(missing: Missing) -> Refusal
+    ensures { number_of result ≡ number_missing missing }
 {
-    if store.len() == STORE_SIZE {
-        let place = points::locate(t, l, p);
-        match place {
-            Place::At(row, at, _) => bits_at(store, row, at),
-            Place::NoType => Bits::No(22),
-            Place::NoLogical => Bits::No(23),
-            Place::NoParameter => Bits::No(24),
-        }
-    } else {
-        Bits::No(2)
+    match missing {
+        Missing::NoPointType => Refusal::NoPointType,
+        Missing::NoLogical => Refusal::NoLogical,
+        Missing::NoParameter => Refusal::NoParameter,
     }
 }
 
-pub fn number_read(store: &[u8], t: PointType, l: Logical, p: Parameter) -> Reading
-    ensures { result ≡ reading_of (number_read gateway store.now t.0 l.0 p.0) }
+/// The bits of a parameter of a whole store: refused by what the TLP lacks, then where they are no number.
+#[tactic(auto, using(crate::proofs::Table::kind_length, crate::proofs::Read::bits_cases))]
+fn bits_held(store: &Store, tlp: Tlp) -> Result<Bits, Refusal>
+    ensures { refusal_check result ≡ bits_read gateway store.now tlp.point.0 tlp.logical.0 tlp.parameter.0 }
 {
-    let bits = held(store, t, l, p);
-    match bits {
-        Bits::OfUnsigned(n) => Reading::Got(Number::Unsigned(n)),
-        Bits::OfSigned(b) => Reading::Got(Number::Signed(signed(b))),
-        Bits::OfSingle(n) => Reading::Got(Number::Single(single(n))),
-        Bits::OfDouble(n) => Reading::Got(Number::Double(double(n))),
-        Bits::No(outcome) => Reading::Refused(outcome),
-    }
+    let spot = points::locate(tlp).map_err(|missing| refusal_of(missing))?;
+    bits_of(points::kind_at(spot.row), store::value_in(store, spot))
 }
 
-// A refusal leaves kind and bits as they were.
-pub fn raw_read(
-    store: &[u8],
-    t: PointType,
-    l: Logical,
-    p: Parameter,
-    kind: &mut u8,
-    bits: &mut u64,
-) -> u8
-    ensures { record { outcome = result; kind = kind.new; bits = bits.new }
-        ≡ telling kind.old bits.old (raw_read gateway store.now t.0 l.0 p.0) }
+/// The one reading: `StoreLength` first.
+#[tactic(auto, using(crate::proofs::Read::bits_cases))]
+fn bits_read(store: &[u8], tlp: Tlp) -> Result<Bits, Refusal>
+    ensures { refusal_check result ≡ bits_read gateway store.now tlp.point.0 tlp.logical.0 tlp.parameter.0 }
 {
-    let found = held(store, t, l, p);
-    match found {
-        Bits::OfUnsigned(n) => {
-            *kind = 0;
-            *bits = n as u64;
-            0
-        }
-        Bits::OfSigned(b) => {
-            *kind = 1;
-            *bits = b as u64;
-            0
-        }
-        Bits::OfSingle(n) => {
-            *kind = 2;
-            *bits = n as u64;
-            0
-        }
-        Bits::OfDouble(n) => {
-            *kind = 3;
-            *bits = n;
-            0
-        }
-        Bits::No(outcome) => outcome,
-    }
+    let store: &Store = store.as_array().ok_or(Refusal::StoreLength)?;
+    bits_held(store, tlp)
+}
+
+/// A parameter as a number. Refused with `StoreLength`, `NoPointType`, `NoLogical`, `NoParameter`, or `OutOfRange` for text and TLP, in that order.
+#[tactic(auto, using(crate::proofs::Read::number_bits), unfolding(base::specs::Check::checks))]
+pub fn number_read(store: &[u8], tlp: Tlp) -> Result<Number, Refusal>
+    ensures { refusal_check result ≡ number_read gateway store.now tlp.point.0 tlp.logical.0 tlp.parameter.0 }
+{
+    Ok(match bits_read(store, tlp)? {
+        Bits::Unsigned(n) => Number::Unsigned(n),
+        Bits::Signed(byte) => Number::Signed(signed(byte)),
+        Bits::Single(n) => Number::Single(single(n)),
+        Bits::Double(n) => Number::Double(double(n)),
+    })
+}
+
+/// The same for C: which kind it is, and its bits as they are stored.
+#[tactic(auto, using(crate::proofs::Read::raw_bits), unfolding(base::specs::Check::checks))]
+pub fn raw_read(store: &[u8], tlp: Tlp) -> Result<Raw, Refusal>
+    ensures { raw_check result ≡ raw_read gateway store.now tlp.point.0 tlp.logical.0 tlp.parameter.0 }
+{
+    let (kind, bits) = match bits_read(store, tlp)? {
+        Bits::Unsigned(n) => (NumberKind::Unsigned, n as u64),
+        Bits::Signed(byte) => (NumberKind::Signed, byte as u64),
+        Bits::Single(n) => (NumberKind::Single, n as u64),
+        Bits::Double(n) => (NumberKind::Double, n),
+    };
+    Ok(Raw { kind, bits })
 }

@@ -1,62 +1,44 @@
-// What a TLP may be: 0,0,0 or a parameter of the build.
-ghost use Rattle.std.specs.Prelude.{◌≡◌, ◌∷◌, [], cond, ◌+◌, ◌≤◌, eqb, length};
-ghost use Rattle.base.specs.Lists.{part};
+//! What a TLP may be: 0,0,0 or a parameter of the build.
+ghost use Rattle.std.specs.Prelude.{◌≡◌, ◌∷◌, [], length};
 ghost use Rattle.points.specs.Types.{gateway};
-ghost use Rattle.values.specs.Kinds.{nothing, valid_tlp, number_tlp};
+ghost use Rattle.values.specs.Kinds.{tlp_of, says_number, valid_tlp, number_tlp};
 
-use points::{Logical, Parameter, Place, PointType};
+use points::{Kind, Logical, Parameter, PointType, Tlp};
 
-fn names_none(t: u8, l: u8, k: u8) -> bool
-    ensures { result ≡ nothing (t ∷ l ∷ k ∷ []) }
+/// Whether a TLP is 0,0,0 or a parameter of the build.
+#[tactic(auto, unfolding(crate::specs::Kinds::valid_tlp))]
+pub fn tlp_ok(tlp: Tlp) -> bool
+    ensures { result ≡ valid_tlp gateway (tlp.point.0 ∷ tlp.logical.0 ∷ tlp.parameter.0 ∷ []) }
 {
-    if t == 0 {
-        return l == 0 && k == 0;
-    }
-    false
+    tlp == Tlp::NONE || points::locate(tlp).is_ok()
 }
 
-pub fn tlp_ok(t: u8, l: u8, k: u8) -> bool
-    ensures { result ≡ valid_tlp gateway (t ∷ l ∷ k ∷ []) }
+/// Whether values of a kind are numbers.
+fn is_number(kind: Kind) -> bool
+    ensures { result ≡ says_number kind }
 {
-    if names_none(t, l, k) {
-        return true;
-    }
-    let place = points::locate(PointType(t), Logical(l), Parameter(k));
-    match place {
-        Place::At(_, _, _) => true,
-        Place::NoType => false,
-        Place::NoLogical => false,
-        Place::NoParameter => false,
-    }
+    matches!(
+        kind,
+        Kind::Unsigned | Kind::Signed | Kind::Single | Kind::Double
+    )
 }
 
-// Text and TLP are no numbers: the codes of the kinds that are lie from 1 to 4.
-#[tactic(auto, using(crate::proofs::Named::number_tlp_cases))]
-pub fn number_tlp_ok(t: u8, l: u8, k: u8) -> bool
-    ensures { result ≡ number_tlp gateway (t ∷ l ∷ k ∷ []) }
+/// Whether a TLP is 0,0,0 or a parameter of the build that is a number.
+#[tactic(auto, using(crate::proofs::Named::row_same), unfolding(crate::specs::Kinds::number_tlp))]
+pub fn number_tlp_ok(tlp: Tlp) -> bool
+    ensures { result ≡ number_tlp gateway (tlp.point.0 ∷ tlp.logical.0 ∷ tlp.parameter.0 ∷ []) }
 {
-    if names_none(t, l, k) {
-        return true;
-    }
-    let place = points::locate(PointType(t), Logical(l), Parameter(k));
-    match place {
-        Place::At(row, _, _) => {
-            let kind = points::kind_at(row);
-            1 <= kind && kind <= 4
-        }
-        Place::NoType => false,
-        Place::NoLogical => false,
-        Place::NoParameter => false,
-    }
+    tlp == Tlp::NONE || points::locate(tlp).is_ok_and(|spot| is_number(points::kind_at(spot.row)))
 }
 
-// The three bytes from a place on. A range with code 4 wants a number.
-pub fn tlp_at(range: u8, data: &[u8], at: usize) -> bool
-    requires { at + 3 ≤ length «data».now }
-    ensures { result ≡ cond (eqb range 4) (number_tlp gateway (part «data».now at 3)) (valid_tlp gateway (part «data».now at 3)) }
+/// The TLP that the three bytes of a value say.
+pub fn tlp_of(value: &[u8]) -> Tlp
+    requires { length value.now ≡ 3 }
+    ensures { result ≡ tlp_of value.now }
 {
-    if range == 4 {
-        return number_tlp_ok(data[at], data[at + 1], data[at + 2]);
+    Tlp {
+        point: PointType(value[0]),
+        logical: Logical(value[1]),
+        parameter: Parameter(value[2]),
     }
-    tlp_ok(data[at], data[at + 1], data[at + 2])
 }

@@ -1,55 +1,67 @@
-// A value of any kind but text, judged by its row, and with its mate.
-ghost use Rattle.std.specs.Prelude.{◌≡◌};
-ghost use Rattle.base.specs.Lists.{part};
+//! A value of any kind but text, judged by its row, and with its mate. Of a text the walk over a list judges each byte.
+ghost use Rattle.std.specs.Prelude.{◌≡◌, true, length};
+ghost use Rattle.base.specs.Check.{from};
+ghost use Rattle.base.specs.Lists.{both};
+ghost use Rattle.faults.specs.Faults.{check_of};
 ghost use Rattle.points.specs.Types.{gateway};
-ghost use Rattle.points.specs.Columns.{row_at, row_kind};
-ghost use Rattle.values.specs.Judged.{in_range, judged};
-ghost use Rattle.values.specs.Weighed.{weighed, judgement_of};
-ghost use Rattle.values.specs.Weighable.{Standing, Weighable, passes};
+ghost use Rattle.points.specs.Columns.{row_at};
+ghost use Rattle.values.specs.Kinds.{kind_allows, of_kind};
+ghost use Rattle.values.specs.Judged.{in_range};
+ghost use Rattle.values.specs.Weighed.{mated, weighed};
+ghost use Rattle.values.specs.Weighable.{kind_long, Weighable};
 
 use crate::pairs::pair_ok;
-use crate::readings::unsigned_at;
-use crate::tlps::tlp_at;
-use crate::{Judgement, finite32, finite64, rate_ok, size_ok, status_ok, within};
+use crate::ranges::range_allows;
+use crate::tlps::{tlp_of, tlp_ok};
+use crate::{finite32, finite64, quad, unsigned};
+use faults::{Fault, Refusal, require};
+use points::{Kind, Logical, Spot};
+use store::Store;
 
-// An unsigned value. The sample rates and the sizes are no stretch from a least to a most.
-fn number_ok(row: usize, l: u8, data: &[u8], at: usize) -> bool
-    requires { Standing row «data».now at × (row_kind (row_at row) ≡ 1) }
-    ensures { result ≡ in_range gateway (row_at row).range l (part «data».now at (row_at row).len) }
+/// Whether bytes are a value of a kind. They are as many as values of that kind have.
+#[tactic(auto, unfolding(crate::specs::Weighable::kind_long))]
+fn kind_allows(kind: Kind, value: &[u8]) -> bool
+    requires no_text { kind ≡ Kind.Text → ⊥ }
+    requires long { kind_long kind (length value.now) ≡ true }
+    ensures { result ≡ kind_allows gateway kind value.now }
 {
-    let n = unsigned_at(data, at, points::length_at(row));
-    let range = points::range_at(row);
-    match range {
-        2 => rate_ok(n),
-        3 => size_ok(l, n),
-        _ => within(points::least_at(row), points::most_at(row), n),
+    match kind {
+        Kind::Text => unreachable!(),
+        Kind::Unsigned | Kind::Signed => true,
+        Kind::Single => finite32(unsigned(value)),
+        Kind::Double => finite64(quad(value)),
+        Kind::Tlp => tlp_ok(tlp_of(value)),
     }
 }
 
-fn judge(row: usize, l: u8, data: &[u8], at: usize) -> bool
-    requires { Standing row «data».now at }
-    ensures { result ≡ passes (judged gateway (row_at row) l (part «data».now at (row_at row).len)) }
+/// Whether a value may stand where it is to: by its kind, by its range, and with its mate.
+#[tactic(auto, using(crate::proofs::Table::lengths), unfolding(crate::specs::Kinds::of_kind, crate::specs::Judged::in_range))]
+fn fits(store: &Store, row: usize, logical: Logical, value: &[u8]) -> bool
+    requires { Weighable row logical.0 value.now }
+    ensures { result ≡ both (of_kind gateway (row_at row).kind value.now) (both (in_range gateway (row_at row).range logical.0 value.now) (mated gateway store.now row logical.0 value.now)) }
 {
     let kind = points::kind_at(row);
-    match kind {
-        1 => number_ok(row, l, data, at),
-        2 => status_ok(data[at]),
-        3 => finite32(base::long_at(data, at)),
-        4 => finite64(base::quad_at(data, at)),
-        _ => tlp_at(points::range_at(row), data, at),
-    }
+    let range = points::range_at(row);
+    kind_allows(kind, value)
+        && range_allows(range, logical, value)
+        && pair_ok(store, row, logical, value)
 }
 
-// Every fault of a value has the same number and no offset: 27 at 0.
-pub fn weigh(store: &[u8], row: usize, l: u8, data: &[u8], at: usize) -> Judgement
-    requires { Weighable store.now row l «data».now at }
-    ensures { result ≡ judgement_of (weighed gateway store.now row l (part «data».now at (row_at row).len)) }
+/// `OutOfRange` at the place of a value that may not be stored.
+#[tactic(auto, using(crate::proofs::Verdicts::weighed_if))]
+pub fn weigh(
+    store: &Store,
+    spot: Spot,
+    logical: Logical,
+    value: &[u8],
+    place: u8,
+) -> Result<(), Fault>
+    requires { Weighable spot.row logical.0 value.now }
+    ensures { check_of result ≡ from place (weighed gateway store.now spot.row logical.0 value.now) }
 {
-    if judge(row, l, data, at) {
-        if pair_ok(store, row, l, data, at) {
-            return Judgement::Fine;
-        }
-        return Judgement::Bad(27, 0);
-    }
-    Judgement::Bad(27, 0)
+    require(
+        fits(store, spot.row, logical, value),
+        Refusal::OutOfRange,
+        place,
+    )
 }

@@ -1,7 +1,5 @@
-pub mod Admitting
 pub mod Mates
 pub mod Accepting
 pub mod Texts
-pub mod Left
-pub mod Kept
-pub mod Answers
+pub mod Turns
+pub mod Whole

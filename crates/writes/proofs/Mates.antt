@@ -6,23 +6,23 @@ use native.Mathlib.Decide.{ℕ_discrete}
 use native.Mathlib.Omega.{arith}
 use mathlib.Core.Path.{◌≡◌, refl, sym, ap, ◌∙◌}
 use mathlib.Core.Bool.{Bool, true, false, cond, not}
-use mathlib.Core.List.{List, [], ◌∷◌, map}
+use mathlib.Core.List.{List, [], ◌∷◌}
 use borrow.Author.Tests.{eq-eqb, ne_eqb, le-leb, lt-leb, ltb-true, ltb-false}
 use lib.Dec.{eqb, leb, ltb}
-use lib.ListN.{length, get_or-map, get_or-eq_default}
+use lib.ListN.{length, get_or-eq_default}
 use Rattle.base.specs.Lists.{All, either, only}
 use Rattle.base.proofs.Below.{below, at-below}
-use Rattle.base.proofs.Sums.{before}
 use Rattle.points.specs.Row.{Access, read_write, read_only, read_only_first, locked_at}
-use Rattle.points.specs.Types.{points, no_point, point, height, row, gateway, segments, logicals}
+use Rattle.points.specs.Types.{points, point, height, row, gateway, segments, logicals}
 use Rattle.points.specs.Place.{first, len_at, store_size}
-use Rattle.store.specs.Store.{value, Write, storing, stored}
-use Rattle.store.proofs.Laws.{Sound, Names, storing-there, storing_elsewhere, stored-length, stored_elsewhere}
+use Rattle.store.specs.Store.{value, Write, Names, storing, stored}
+use Rattle.store.proofs.Laws.{Sound, storing-there, storing_elsewhere, stored-length, stored_elsewhere}
 use Rattle.values.specs.Pairs.{Pair, none, sizes, periodic, daily, pair_of, paired, together}
 use Rattle.values.specs.Weighed.{changed, mated}
 use Rattle.values.proofs.Paired.{pair_depends}
 use Rattle.rules.specs.Entries as rules
 use Rattle.rules.specs.Entries.{request, system, may_write}
+use Rattle.lists.proofs.Found.{earlier_row}
 
 -- a request writes only what is open to it, the system one value
 abbrev pub Free : rules.Caller → Write → Type 0
@@ -140,11 +140,6 @@ segment_height : height (point segments) ≡ 14
 unfolding point points
 segment_height = refl
 
--- the rows of the types before type 124
-pub earlier-row : (i k : ℕ) → i < segments → k < height (point i) → first i + k < first segments
-unfolding first point
-earlier-row i k h hk = omega (arith, before (map height points) i segments h, get_or-map height points i no_point)
-
 module _ (who : rules.Caller) (s : List ℕ) (whole : length s ≡ store_size gateway) (ws : List Write) (sound : All (Sound gateway) ws) (e : Earlier who ws) where
   pub as_arrived : (i l k : ℕ) (v : List ℕ) → i < 6 → Sound gateway (record { type = i; logical = l; parameter = k; bytes = v })
       → may_write who (row i k).access l ≡ true
@@ -165,5 +160,5 @@ module _ (who : rules.Caller) (s : List ℕ) (whole : length s ≡ store_size ga
           let hk : k < 14 = rw segment_height at o'.parameter in
           rw (d, z, y) (mates-here s whole ws sound l o'.logical who k v hk o'.long o' f' e)
       go (no d) =
-          let y : leb (first segments) (first i + k) ≡ false = lt-leb _ _ (earlier-row i k (omega arith) o.parameter) in
+          let y : leb (first segments) (first i + k) ≡ false = lt-leb _ _ (earlier_row i k (omega arith) o.parameter) in
           rw (ne_eqb i segments d, y) refl

@@ -1,44 +1,59 @@
--- A list that is written, as the code walks it.
+-- A list that is written, as the code walks it: the whole data stays, and the values of earlier entries are not kept.
 -- Assumes nothing.
-use Rattle.std.specs.Prelude.{ℕ, ◌+◌, ◌*◌, ◌≤◌, ◌≡◌, List, [], length, drop}
-use Rattle.base.specs.Check.{Check, fault, pass}
+use Rattle.std.specs.Prelude.{ℕ, zero, suc, ◌+◌, ◌≤◌, List, [], ◌∷◌, length, drop, leb, slice_range}
+use Rattle.base.specs.Check.{Check, fault, pass, ◌>>=◌, test, from}
+use Rattle.base.specs.Lists.{put}
 use Rattle.points.specs.Types.{gateway}
-use Rattle.points.specs.Place.{store_size, Here}
+use Rattle.points.specs.Columns.{row_at}
 use Rattle.store.specs.Store.{Write}
+use Rattle.values.specs.Kinds.{printable}
+use Rattle.values.specs.Weighed.{weighed}
 use Rattle.rules.specs.Entries as rules
-use Rattle.rules.specs.Entries.{system}
-use Rattle.rules.specs.Lists.{writing}
-use Rattle.lists.specs.Walks.{source_at}
-use Rattle.lists.specs.declared.Source.{Source}
-use Rattle.lists.specs.declared.Source.TheVariants.{Block, Located}
-use Rattle.lists.specs.declared.Next.{Next}
-use Rattle.lists.specs.declared.Next.TheVariants.{Found, Fault as FaultN}
-use Rattle.lists.specs.declared.Checked.{Checked}
-use Rattle.lists.specs.declared.Checked.TheVariants.{Pass, Fault}
+use Rattle.rules.specs.Entries.{Source, request, system, may_write, spoken, after, next, locked_place}
+use Rattle.rules.specs.Lists.{write_level}
+use Rattle.lists.specs.Walks.{entry_check}
+use Rattle.lists.specs.declared.finding.Entry.{Entry}
 
-unfoldable pub checked_of : Check (List Write) → Checked
-checked_of (fault n p) = Fault n p
-checked_of (pass ws) = Pass 0
+-- the system writes one value at a time
+abbrev pub Alone : rules.Caller → ℕ → Type 0
+Alone (request L) n = Unit {0}
+Alone system n = n ≤ 1
 
-abbrev pub fault_of : Next → Checked
-fault_of (FaultN n p) = Fault n p
-fault_of (Found r) = Pass 0
+-- whether a check passed
+abbrev pub passed_of : Check (List Write) → Check Unit
+passed_of c = c >>= λ ws. pass tt
 
 -- the values of a check that passed
 abbrev pub writes_of : Check (List Write) → List Write
 writes_of (fault n p) = []
 writes_of (pass ws) = ws
 
--- what is known where a list is written: a block and a table have as many entries, and the system writes one value at a time
-pub record Writable (who : rules.Caller) (src : Source) (count from : ℕ) (d bs s : List ℕ) : Type 0 where
-  pub short : length d ≤ 255
-  pub begun : from ≤ length d
-  pub whole : length s ≡ store_size gateway
-  pub in_block : (i l k : ℕ) → src ≡ Block i l k → (e : ℕ) → e + 1 ≤ count → Here gateway i l (k + e)
-  pub in_table : src ≡ Located → 3 * count ≤ length bs
-  pub alone : who ≡ system → count ≤ 1
+-- each byte of a text, whose value begins at a place
+unfoldable pub printing : List ℕ → ℕ → Check Unit
+printing [] at = pass tt
+printing (x ∷ v) at = do
+  _ ← test (printable x) 27 at
+  printing v at
 
-pub record Keepable (who : rules.Caller) (src : Source) (count from : ℕ) (d bs s : List ℕ) : Type 0 where
-  pub writable : Writable who src count from d bs s
-  pub passes : writing gateway who s (source_at src 0 bs) count (drop from d) from []
-      ≡ pass (writes_of (writing gateway who s (source_at src 0 bs) count (drop from d) from []))
+-- n entries are left to check, and the next begins at place at of the data
+unfoldable pub checking : rules.Caller → List ℕ → Source → ℕ → List ℕ → ℕ → Check Unit
+checking who s src zero d at = test (leb (length d) at) 21 at
+checking who s src (suc n) d at = do
+  entry ← entry_check (next gateway write_level who src (drop at d) at)
+  _ ← test (may_write who (row_at entry.spot.row).access entry.logical.0) 26 (locked_place src at)
+  _ ← test (leb (at + spoken src + entry.spot.len) (length d)) 21 (length d)
+  _ ← from (at + spoken src) (weighed gateway s entry.spot.row entry.logical.0 (slice_range d (at + spoken src) (at + spoken src + entry.spot.len)))
+  checking who s (after src) n d (at + spoken src + entry.spot.len)
+
+-- what follows from an entry that is found; else the store as it was
+abbrev pub unless_fault : Check Entry → List ℕ → (Entry → List ℕ) → List ℕ
+unless_fault (fault n p) s f = s
+unless_fault (pass entry) s f = f entry
+
+-- the store s once the values of the n entries that are left are stored
+unfoldable pub keeping : rules.Caller → Source → ℕ → List ℕ → ℕ → List ℕ → List ℕ
+keeping who src zero d at s = s
+keeping who src (suc n) d at s =
+    unless_fault (entry_check (next gateway write_level who src (drop at d) at)) s (λ entry.
+    keeping who (after src) n d (at + spoken src + entry.spot.len)
+    (put s entry.spot.begin (slice_range d (at + spoken src) (at + spoken src + entry.spot.len))))

@@ -1,4 +1,4 @@
-//! The opcodes served, by theme. Each checks in document 01's order, stops at
+//! The opcodes served, by theme. Each checks in the rules' order, stops at
 //! the first fault, and stores nothing before the last check.
 
 mod block;

@@ -17,7 +17,7 @@ pub use found::Found;
 pub use row::{Access, DefaultValue, Kind, Range, Row};
 pub use tlp::{Count, Logical, Parameter, PointType, Tlp};
 
-/// One point type: a line of document 01's table with the rows of its
+/// One point type: a line of the rules' table with the rows of its
 /// parameters.
 #[derive(Clone, Copy, Debug)]
 pub struct Point {
@@ -54,7 +54,7 @@ pub(crate) static SEGMENTS: &Point = &POINTS[5];
 /// The bytes of all history segments.
 pub(crate) const SEGMENTS_LENGTH: usize = POINTS[5].bytes * POINTS[5].logicals as usize;
 
-/// One line of document 01's table, its place in the store still open.
+/// One line of the rules' table, its place in the store still open.
 const fn point(
     number: u8,
     logicals: u8,

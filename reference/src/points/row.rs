@@ -1,6 +1,6 @@
 //! One row for each parameter: length, kind, access, range, default.
 
-/// A parameter's row in the manual's tables, as document 01 reads it.
+/// A parameter's row in the manual's tables, as the rules read it.
 #[derive(Clone, Copy, Debug)]
 pub struct Row {
     /// The manual's name.

@@ -1,4 +1,4 @@
-//! The kinds of number document 01 keeps apart, and the TLP made of three of
+//! The kinds of number the rules keep apart, and the TLP made of three of
 //! them.
 
 /// The number of a point type.

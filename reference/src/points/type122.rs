@@ -37,7 +37,7 @@ const fn name(name: &'static str) -> Row {
     Row::text(name, 20, "").read_only()
 }
 
-/// The range column says 1 to 120, the description -1 to 5; document 01 takes
+/// The range column says 1 to 120, the description -1 to 5; the rules take
 /// the description.
 const fn status(name: &'static str) -> Row {
     Row::signed(name, -1, 5).read_only()

@@ -39,7 +39,7 @@ const DAILY_INDEX: u8 = 6;
 const CONFIGURED: u8 = 12;
 
 /// Whether the pair a parameter belongs to, if any, agrees in the bytes of one
-/// logical. Document 01 checks a pair whichever of the two is written.
+/// logical. The rules check a pair whichever of the two is written.
 pub(crate) fn pair_agrees(segment: &[u8], logical: Logical, parameter: Parameter) -> bool {
     let number = |parameter: u8| {
         let at = usize::from(ROWS[usize::from(parameter)].offset);

@@ -1,10 +1,9 @@
--- The loop of `fill::fill`: after i turns i types are filled.
-use Prim.Native.Nat.{◌-◌, ◌≤◌}
-use Rattle.fill.specs.Steps.{Filled}
+-- The loop of `fill::fill`: the types before this one are filled.
+use mathlib.Core.Path.{◌≡◌}
+use Rattle.points.specs.Types.{gateway}
+use Rattle.points.specs.Place.{offset}
+use Rattle.fill.specs.Steps.{renewed}
 use Rattle.fill.proofs.fill.Given as goal
 
-abbrev pub invariant-loop-i : goal.invariant-loop-i
-invariant-loop-i l = (l.i ≤ 6) × Filled l.initial.store l.store 0 l.at l.i 0 0
-
-abbrev pub decreases-loop-i : goal.decreases-loop-i
-decreases-loop-i l = 6 - l.i
+abbrev pub invariant-loop-index : goal.invariant-loop-index
+invariant-loop-index l = l.store ≡ renewed l.initial.store 0 (offset gateway l.index 0 0)

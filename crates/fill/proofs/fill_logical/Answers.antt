@@ -1,20 +1,7 @@
--- `fill::fill_logical` meets its contract, by the invariants beside this.
+-- `fill::fill_logical` meets its contract, by the invariant beside this.
 -- Assumes nothing.
-use borrow.Author.Rules.{rules}
-use Rattle.fill.proofs.Steps.{parameter_turn}
+use Rattle.fill.proofs.Steps.{logical_small}
 use Rattle.fill.proofs.fill_logical.Goals as goal
 
-pub loop-k-init : goal.loop-k-init
-loop-k-init c = search (rules, parameter_turn)
-
-pub put_default-requires : goal.put_default-requires
-put_default-requires c = search (rules, parameter_turn)
-
-pub length_at-requires : goal.length_at-requires
-length_at-requires c = search (rules, parameter_turn)
-
-pub loop-k-preserved : goal.loop-k-preserved
-loop-k-preserved c = search (rules, parameter_turn)
-
-pub returns : goal.returns
-returns c = search (rules, parameter_turn)
+pub put_default-requires-clause-two_digits : goal.put_default-requires-clause-two_digits
+put_default-requires-clause-two_digits c = logical_small c.args.index c.args.logical.0 c.requires.built

@@ -1,10 +1,9 @@
--- The loop of `fill::fill_logical`: after k turns k parameters are filled.
-use Prim.Native.Nat.{◌-◌, ◌≤◌}
-use Rattle.fill.specs.Steps.{Filled}
+-- The loop of `fill::fill_logical`: after as many turns that many parameters are filled.
+use mathlib.Core.Path.{◌≡◌}
+use Rattle.points.specs.Types.{gateway}
+use Rattle.points.specs.Place.{offset}
+use Rattle.fill.specs.Steps.{renewed}
 use Rattle.fill.proofs.fill_logical.Given as goal
 
-abbrev pub invariant-loop-k : goal.invariant-loop-k
-invariant-loop-k l = (l.k ≤ l.height) × Filled l.initial.store l.store l.at l.next l.i l.l.0 l.k
-
-abbrev pub decreases-loop-k : goal.decreases-loop-k
-decreases-loop-k l = l.height - l.k
+abbrev pub invariant-loop-parameter : goal.invariant-loop-parameter
+invariant-loop-parameter l = l.store ≡ renewed l.initial.store (offset gateway l.index l.logical.0 0) (offset gateway l.index l.logical.0 l.parameter)

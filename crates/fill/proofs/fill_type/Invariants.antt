@@ -1,10 +1,9 @@
--- The loop of `fill::fill_type`: after l turns l logicals are filled.
-use Prim.Native.Nat.{◌-◌, ◌≤◌}
-use Rattle.fill.specs.Steps.{Filled}
+-- The loop of `fill::fill_type`: the logicals before this one are filled.
+use mathlib.Core.Path.{◌≡◌}
+use Rattle.points.specs.Types.{gateway}
+use Rattle.points.specs.Place.{offset}
+use Rattle.fill.specs.Steps.{renewed}
 use Rattle.fill.proofs.fill_type.Given as goal
 
-abbrev pub invariant-loop-l : goal.invariant-loop-l
-invariant-loop-l l = (l.l ≤ l.n) × Filled l.initial.store l.store l.at l.next l.i l.l 0
-
-abbrev pub decreases-loop-l : goal.decreases-loop-l
-decreases-loop-l l = l.n - l.l
+abbrev pub invariant-loop-logical : goal.invariant-loop-logical
+invariant-loop-logical l = l.store ≡ renewed l.initial.store (offset gateway l.index 0 0) (offset gateway l.index l.logical 0)

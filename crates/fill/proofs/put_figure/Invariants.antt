@@ -1,12 +1,10 @@
--- The loop of `fill::put_figure`: what is left of the number, put behind what is written, is the whole.
+-- The loop of `fill::put_figure`: the bytes that are written, and those of what is left of the number, are the number's.
 use mathlib.Core.Path.{◌≡◌}
+use mathlib.Core.List.{◌++◌}
 use Prim.Native.Nat.{◌-◌}
-use lib.ListN.{length}
-use Rattle.fill.proofs.Writing.{figure_left}
+use lib.ListN.{length, take}
+use Rattle.base.specs.Bytes.{bytes}
 use Rattle.fill.proofs.put_figure.Given as goal
 
-abbrev pub invariant-loop-i : goal.invariant-loop-i
-invariant-loop-i l = (length l.store ≡ length l.initial.store) × (figure_left l.store l.at l.rest l.n l.i ≡ figure_left l.initial.store l.at l.x l.n 0)
-
-abbrev pub decreases-loop-i : goal.decreases-loop-i
-decreases-loop-i l = l.n - l.i
+abbrev pub invariant-loop-byte : goal.invariant-loop-byte
+invariant-loop-byte l = take l.byte-index l.value ++ bytes (length l.initial.value - l.byte-index) l.rest ≡ bytes (length l.initial.value) l.figure

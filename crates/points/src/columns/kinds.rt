@@ -1,9 +1,19 @@
-// What a value is: 0 text, 1 unsigned, 2 signed, 3 single, 4 double, 5 TLP.
-pub const KINDS: [u8; 175] = [
-    0, 0, 0, 0, 0, 0, 0, 0, 0, 0, 0, 3, 3, 3, 3, 3, 3, 3, 3, 3, 3, 3, 3, 3, 3, 3, 3, 3, 3, 3, 3, 1,
-    1, 1, 1, 1, 1, 1, 1, 1, 1, 1, 1, 1, 1, 1, 1, 1, 1, 1, 1, 1, 1, 4, 4, 4, 4, 4, 4, 4, 4, 4, 4, 1,
-    1, 1, 1, 1, 1, 1, 1, 1, 3, 5, 5, 5, 5, 5, 5, 5, 5, 5, 5, 5, 5, 5, 5, 5, 5, 5, 5, 5, 5, 5, 5, 5,
-    5, 5, 5, 5, 5, 5, 5, 5, 5, 5, 5, 5, 5, 5, 5, 5, 5, 5, 5, 5, 5, 1, 1, 1, 1, 1, 1, 1, 1, 0, 2, 1,
-    1, 0, 2, 1, 1, 0, 2, 1, 1, 0, 2, 1, 1, 0, 0, 0, 0, 0, 0, 0, 0, 0, 0, 0, 0, 0, 0, 0, 0, 0, 0, 0,
-    0, 0, 1, 1, 1, 1, 1, 1, 1, 1, 1, 1, 1, 1, 5,
+//! What a value is.
+use crate::Kind::{self, Double, Signed, Single, Text, Tlp, Unsigned};
+
+pub static KINDS: [Kind; 175] = [
+    Text, Text, Text, Text, Text, Text, Text, Text, Text, Text, Text, Single, Single, Single,
+    Single, Single, Single, Single, Single, Single, Single, Single, Single, Single, Single, Single,
+    Single, Single, Single, Single, Single, Unsigned, Unsigned, Unsigned, Unsigned, Unsigned,
+    Unsigned, Unsigned, Unsigned, Unsigned, Unsigned, Unsigned, Unsigned, Unsigned, Unsigned,
+    Unsigned, Unsigned, Unsigned, Unsigned, Unsigned, Unsigned, Unsigned, Unsigned, Double, Double,
+    Double, Double, Double, Double, Double, Double, Double, Double, Unsigned, Unsigned, Unsigned,
+    Unsigned, Unsigned, Unsigned, Unsigned, Unsigned, Unsigned, Single, Tlp, Tlp, Tlp, Tlp, Tlp,
+    Tlp, Tlp, Tlp, Tlp, Tlp, Tlp, Tlp, Tlp, Tlp, Tlp, Tlp, Tlp, Tlp, Tlp, Tlp, Tlp, Tlp, Tlp, Tlp,
+    Tlp, Tlp, Tlp, Tlp, Tlp, Tlp, Tlp, Tlp, Tlp, Tlp, Tlp, Tlp, Tlp, Tlp, Tlp, Tlp, Tlp, Tlp, Tlp,
+    Tlp, Unsigned, Unsigned, Unsigned, Unsigned, Unsigned, Unsigned, Unsigned, Unsigned, Text,
+    Signed, Unsigned, Unsigned, Text, Signed, Unsigned, Unsigned, Text, Signed, Unsigned, Unsigned,
+    Text, Signed, Unsigned, Unsigned, Text, Text, Text, Text, Text, Text, Text, Text, Text, Text,
+    Text, Text, Text, Text, Text, Text, Text, Text, Text, Text, Text, Unsigned, Unsigned, Unsigned,
+    Unsigned, Unsigned, Unsigned, Unsigned, Unsigned, Unsigned, Unsigned, Unsigned, Unsigned, Tlp,
 ];

@@ -1,14 +1,13 @@
--- `request::request` meets its contract.
+-- `request::request` meets its contract where the request is received.
 -- Assumes nothing.
 use borrow.Author.Rules.{rules}
-use Rattle.request.proofs.Requested.{can_perform, as_performed, as_refused}
+use mathlib.Core.Path.{◌≡◌}
+use Rattle.request.proofs.Answered.{heard}
 use Rattle.request.proofs.request.Goals as goal
 
-pub perform-requires : goal.perform-requires
-perform-requires c = can_perform _ _ _ _ c.refused-n.ensures c.if-received.true (search rules)
-
-pub returns-then-received : goal.returns-then-received
-returns-then-received c = as_performed _ _ _ _ c.refused-n.ensures c.if-received.true _ c.perform.ensures
-
-pub returns : goal.returns
-returns c = as_refused _ _ _ _ c.refused-n.ensures c.if-received.false
+pub returns-in-Ok : goal.returns-in-Ok
+returns-in-Ok c =
+    let first = rw c.unwrap-reply.ensures at c.first_chunk_mut.ensures.cases in
+    let store = rw c.unwrap-store.ensures at c.as_mut_array.ensures.cases in
+    heard _ _ _ _ _ _ _ c.in-Ok.ensures.ok.0 c.perform.ensures.long c.in-Ok.ensures.room.1
+    (rw (← first.same, ← store.same, ← c.in-Ok.ensures.ok.1) c.perform.ensures.is)

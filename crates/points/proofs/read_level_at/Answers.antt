@@ -1,9 +1,0 @@
--- `points::read_level_at` meets its contract: the table is the column of the definition, by computation.
--- Assumes nothing.
-use mathlib.Core.Path.{refl}
-use Rattle.points.specs.Columns.{read_levels}
-use Rattle.points.proofs.read_level_at.Goals as goal
-
-pub returns : goal.returns
-unfolding read_levels
-returns c = refl
