@@ -5,3 +5,4 @@ pub mod Parts
 pub mod Joined
 pub mod Numbers
 pub mod Written
+pub mod Copies

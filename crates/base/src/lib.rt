@@ -52,10 +52,12 @@ pub fn quad_at(bytes: &[u8], at: usize) -> u64
 }
 
 /// Copies n bytes of src, from a place on, to a place of dst: a value for the store, or a value of it for a reply.
-#[tactic(auto, unfolding(crate::specs::Lists::part, crate::specs::Lists::put))]
+#[tactic(auto, using(crate::proofs::Copies::copy_steps))]
 pub fn copy(dst: &mut [u8], at: usize, src: &[u8], from: usize, n: usize)
     requires { (at + n ≤ length dst.old) × (from + n ≤ length src.now) }
     ensures { dst.new ≡ put dst.old at (part src.now from n) }
 {
-    dst[at..at + n].copy_from_slice(&src[from..from + n]);
+    for i in 0..n {
+        dst[at + i] = src[from + i];
+    }
 }

@@ -24,20 +24,20 @@ pub fn value_in(store: &Store, spot: Spot) -> &[u8]
 }
 
 /// A value stored: as many bytes as its parameter has.
-#[tactic(auto, unfolding(base::specs::Lists::put))]
+#[tactic(auto, using(base::proofs::Parts::part_all))]
 pub fn keep(store: &mut Store, spot: Spot, value: &[u8])
     requires inside { IsInside spot }
     requires long { length value.now ≡ spot.len }
     ensures { store.new ≡ put store.old spot.begin value.now }
 {
-    store[spot.begin..spot.begin + spot.len].copy_from_slice(value);
+    base::copy(store, spot.begin, value, 0, spot.len);
 }
 
 /// A value told: put into a reply from a place on.
-#[tactic(auto, unfolding(base::specs::Lists::put))]
+#[tactic(auto, using(base::proofs::Parts::part_all))]
 pub fn tell(reply: &mut [u8], at: usize, value: &[u8])
     requires { at + length value.now ≤ length reply.old }
     ensures { reply.new ≡ put reply.old at value.now }
 {
-    reply[at..at + value.len()].copy_from_slice(value);
+    base::copy(reply, at, value, 0, value.len());
 }
