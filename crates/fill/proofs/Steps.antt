@@ -1,11 +1,12 @@
 -- A fill goes on: by one parameter, from a logical to the next, from a type to the next, and to the end of the store.
 -- Assumes nothing.
 use mathlib.Core.Path.{◌≡◌, refl, sym, ap, ◌∙◌}
-use mathlib.Core.List.{List, [], append-nil}
+use mathlib.Core.List.{List, [], ◌++◌, append_assoc, append-nil}
 use Prim.Native.Nat.{ℕ, ◌+◌, ◌-◌, ◌≤◌, ◌<◌}
 use native.Mathlib.Numerals.{add-one}
 use native.Mathlib.Omega.{arith}
 use borrow.Author.Tests.{eq-eqb, ne_eqb}
+use borrow.Rule.Slice.PartMut.{put_mid, Post-is}
 use lib.ListN.{length, take, drop, drop_of_length-le}
 use lib.Seq.{take_all}
 use Rattle.base.specs.Lists.{part, put}
@@ -21,7 +22,7 @@ use Rattle.points.proofs.Laws.{fits, next_parameter}
 use Rattle.points.proofs.Rows.{row_at_lem, row_len_lem}
 use Rattle.store.specs.Store.{value}
 use Rattle.store.specs.Fresh.{start_of, default_of, fresh}
-use Rattle.store.proofs.Fresh.{value-fresh, length-fresh, next_logical, next_type}
+use Rattle.store.proofs.Fresh.{value-fresh, length-fresh, length-start, next_logical, next_type}
 use Rattle.rules.specs.System.{fill}
 use Rattle.fill.specs.Steps.{renewed}
 
@@ -59,6 +60,14 @@ renewed_all s whole =
     let h : length s ≤ 12427 = omega arith in
     let d : drop 12427 s ≡ [] = drop_of_length-le s h in
     rw (e, fresh_long, d) (append-nil (fresh gateway))
+
+-- a value changed where it lies
+changed_there : (s v : List ℕ) (a n : ℕ) → length v ≡ n → put_mid a (a + n - a) s v ≡ put s a v
+unfolding put
+changed_there s v a n e =
+    let there : a + n ≡ a + length v = omega arith in
+    ap (λ (l : List ℕ). take a s ++ (v ++ l)) (Post-is a (a + n) s (omega arith) ∙ ap (λ (k : ℕ). drop k s) there)
+    ∙ sym (append_assoc (take a s) v (drop (a + length v) s))
 
 -- ---- where parameters, logicals and types begin and end
 
@@ -122,6 +131,13 @@ module _ (s₀ : List ℕ) (whole : length s₀ ≡ 12427) where
         let q : put s spot.begin v ≡ put s at (part (fresh gateway) at (offset gateway i l (k + 1) - offset gateway i l k)) = rw (wide, ← fresh_there, e) in
         onward s₀ s (put s spot.begin v) (offset gateway i l 0) at (offset gateway i l (k + 1)) whole (begins i l k) (omega arith)
         (omega (arith, ends i l k h)) p q
+
+    pub parameter_there : (v : List ℕ) (k : ℕ) (spot : Spot) → k < height (point i) → s ≡ renewed s₀ (offset gateway i l 0) (offset gateway i l k)
+        → spot ≡ spot_of gateway i l k → v ≡ start_of l spot.len (row_at spot.row).default
+        → put_mid spot.begin (spot.begin + spot.len - spot.begin) s v ≡ renewed s₀ (offset gateway i l 0) (offset gateway i l (k + 1))
+    parameter_there v k spot hk p e ev =
+        let long : length v ≡ spot.len = ap length ev ∙ length-start l spot.len (row_at spot.row).default in
+        changed_there s v spot.begin spot.len long ∙ parameter_turn v k spot hk p e ev
 
 -- ---- the whole fill
 

@@ -15,9 +15,6 @@ use faults::Refusal;
 use points::{Initial, Logical, Parameter, Spot};
 use store::Store;
 
-// A soft point's label has the most bytes of all values.
-const LONGEST_VALUE: usize = 40;
-
 // A text with spaces behind it, or as much of it as there is room for.
 #[tactic(auto, using(crate::proofs::Writing::padded_parts))]
 fn put_text(value: &mut [u8], text: &[u8])
@@ -107,7 +104,7 @@ fn put_default(value: &mut [u8], spot: Spot, logical: Logical)
 }
 
 // The parameters of one logical. "types ascending, logicals ascending, parameters ascending, unpadded"
-#[tactic(auto, using(crate::proofs::Steps::renewed_none, crate::proofs::Steps::parameter_turn, crate::proofs::Steps::logical_end, crate::proofs::Steps::logical_small))]
+#[tactic(auto, using(crate::proofs::Steps::renewed_none, crate::proofs::Steps::parameter_there, crate::proofs::Steps::logical_end, crate::proofs::Steps::logical_small))]
 fn fill_logical(store: &mut Store, index: usize, logical: Logical)
     requires known { index < 6 }
     requires built { logical.0 < logicals gateway index }
@@ -115,10 +112,8 @@ fn fill_logical(store: &mut Store, index: usize, logical: Logical)
 {
     for parameter in 0..points::height_of(index) {
         let spot = points::spot_at(index, logical, Parameter(parameter));
-        let mut space = [0u8; LONGEST_VALUE];
-        let value = &mut space[..spot.len];
+        let value = &mut store[spot.begin..spot.begin + spot.len];
         put_default(value, spot, logical);
-        store::keep(store, spot, value);
     }
 }
 
