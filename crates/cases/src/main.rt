@@ -6,7 +6,6 @@
 mod records;
 
 use records::Record;
-use std::fmt;
 use std::fs::File;
 use std::io::{self, Read};
 use std::rt::Files;
@@ -18,45 +17,16 @@ struct Station {
     clock: [u8; 7],
 }
 
-impl Station {
-    fn new() -> Station {
-        let mut store = [0u8; store::LENGTH];
-        gateway::tyurkanim_fill(&mut store);
-        Station {
-            store,
-            clock: [0, 0, 0, 1, 1, 208, 7],
-        }
+/// Writes the outcome, the reply's length and the reply in hexadecimal, piece by piece: where a write fails, what came before it stands.
+fn tell(rt: &impl Print, outcome: u8, reply: &[u8]) -> io::Result<()> {
+    print!(rt; "{outcome} {}", reply.len())?;
+    if !reply.is_empty() {
+        print!(rt; " ")?;
     }
-}
-
-/// Bytes, printed in hexadecimal.
-#[derive(Clone, Copy)]
-struct Hex<'a>(&'a [u8]);
-
-impl fmt::Display for Hex<'_> {
-    fn fmt<W: fmt::Write>(&self, f: &mut fmt::Formatter<W>) -> fmt::Result {
-        for byte in self.0 {
-            write!(f, "{byte:02x}")?;
-        }
-        Ok(())
+    for byte in reply {
+        print!(rt; "{byte:02x}")?;
     }
-}
-
-/// What came of a case.
-#[derive(Clone, Copy)]
-struct Answer<'a> {
-    outcome: u8,
-    reply: &'a [u8],
-}
-
-impl fmt::Display for Answer<'_> {
-    fn fmt<W: fmt::Write>(&self, f: &mut fmt::Formatter<W>) -> fmt::Result {
-        write!(f, "{} {}", self.outcome, self.reply.len())?;
-        if !self.reply.is_empty() {
-            write!(f, " {}", Hex(self.reply))?;
-        }
-        Ok(())
-    }
+    println!(rt)
 }
 
 fn run_case(rt: &impl Print, record: &Record, station: &mut Station) -> io::Result<()> {
@@ -73,11 +43,11 @@ fn run_case(rt: &impl Print, record: &Record, station: &mut Station) -> io::Resu
         &mut reply,
         &mut length,
     );
-    let answer = Answer {
+    tell(
+        rt,
         outcome,
-        reply: &reply[..usize::from(length).min(frame::LONGEST)],
-    };
-    println!(rt; "{answer}")
+        &reply[..usize::from(length).min(frame::LONGEST)],
+    )
 }
 
 // A proved loop has to end, and nothing says that a file does: so the turns are counted, up to a number that no file uses up.
@@ -95,7 +65,14 @@ fn run_all(rt: &impl Print, cases: &mut impl Read, station: &mut Station) -> io:
 fn run(rt: &(impl Files + Print + Eprint), name: &str) -> io::Result<()> {
     println!(rt; "{name}")?;
     match File::open(rt, name) {
-        Ok(mut cases) => run_all(rt, &mut cases, &mut Station::new()),
+        Ok(mut cases) => {
+            let mut station = Station {
+                store: [0u8; store::LENGTH],
+                clock: [0, 0, 0, 1, 1, 208, 7],
+            };
+            gateway::tyurkanim_fill(&mut station.store);
+            run_all(rt, &mut cases, &mut station)
+        }
         Err(error) => eprintln!(rt; "{name}: {error}"),
     }
 }
