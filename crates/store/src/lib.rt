@@ -1,4 +1,5 @@
-//! The store: what a parameter holds, and a value stored. All that stands above goes by these functions, and indexes no byte of it.
+//! The store: what a parameter holds, and a value stored. All that stands above goes by these functions, but for the fill and for a block, which cut a
+//! slice of it by spots.
 #![tactic(auto)]
 
 ghost use Rattle.std.specs.Prelude.{◌≡◌, ◌+◌, ◌≤◌, length};
