@@ -1,6 +1,7 @@
 -- What is known of an entry that the rules find: it is a parameter of the build, and the bytes that name it are there.
 -- Assumes nothing.
-use Prim.Native.Nat.{ℕ, suc, ◌-◌, ◌≤◌}
+use Prim.Native.Nat.{ℕ, suc, ◌+◌, ◌-◌, ◌≤◌}
+use native.Mathlib.Nat.{add-zero}
 use native.Mathlib.Omega.{arith}
 use mathlib.Core.Path.{◌≡◌, refl}
 use mathlib.Core.List.{List}
@@ -17,7 +18,7 @@ use Rattle.lists.specs.Walks.{Standing, entry_of, entry_check}
 module _ (level : Point → ℕ) (who : rules.Caller) where
   pub next_stands : (src : Source) (n : ℕ) (d : List ℕ) (at : ℕ) → Standing src (suc n) → Holds (Stands gateway) (next gateway level who src d at)
   unfolding next
-  next_stands (block i l k) n d at h = passing (record { logical = h.logical; parameter = omega (arith, h.last) })
+  next_stands (block i l k) n d at h = let w = rw add-zero at (h 0 (omega arith)) in passing (record { logical = w.logical; parameter = w.parameter })
   next_stands named n d at h = step _ λ _. holds-map (found-holds gateway level who _ _ _ _ _ _) (λ _ r. r.stands)
   next_stands (located bs) n d at h = holds-map (found-holds gateway level who _ _ _ _ _ _) (λ _ r. r.stands)
 
@@ -28,7 +29,7 @@ module _ (level : Point → ℕ) (who : rules.Caller) where
   spoken_there (located bs) d at e = omega arith
 
 pub standing_after : (src : Source) (n : ℕ) → Standing src (suc n) → Standing (after src) n
-standing_after (block i l k) n h = record { type = h.type; logical = h.logical; last = omega (arith, h.last) }
+standing_after (block i l k) n h = λ e b. let z : k + (e + 1) ≡ suc k + e = omega arith in rw z at (h (e + 1) (omega arith))
 standing_after named n h = tt
 standing_after (located bs) n h = tt
 

@@ -3,7 +3,7 @@
 use Rattle.std.specs.Prelude.{ℕ, ◌+◌, ◌*◌, ◌≤◌, ◌<◌, List, get_or, drop}
 use Rattle.base.specs.Check.{Check, pass, ◌>>=◌}
 use Rattle.points.specs.Types.{Point, point, height, segments, logicals, gateway}
-use Rattle.points.specs.Place.{first, spot_of, IsInside}
+use Rattle.points.specs.Place.{first, spot_of, Here, IsInside}
 use Rattle.points.specs.Columns.{read_levels, write_levels}
 use Rattle.points.specs.declared.Tlp.{Tlp}
 use Rattle.points.specs.declared.Missing.{Missing}
@@ -57,7 +57,7 @@ pub record Run (i l k n : ℕ) : Type 0 where
 
 -- what is known of a list of n entries: all parameters of a block are of the build
 abbrev pub Standing : Source → ℕ → Type 0
-Standing (block i l k) n = Run i l k n
+Standing (block i l k) n = (e : ℕ) → e < n → Here gateway i l (k + e)
 Standing named n = Unit {0}
 Standing (located bs) n = Unit {0}
 

@@ -1,6 +1,7 @@
 //! The three kinds of list: a block of parameters, parameters that the data names, and those that a table's locations name.
 ghost use Rattle.std.specs.Prelude.{◌≡◌, ◌+◌, ◌*◌, ◌/◌, ◌<◌, ◌≤◌, ℕ, List, length, drop, IfOk};
-ghost use Rattle.points.specs.Types.{gateway, logicals, point, height};
+ghost use Rattle.points.specs.Types.{gateway};
+ghost use Rattle.points.specs.Place.{Here};
 ghost use Rattle.faults.specs.Faults.{check_of};
 ghost use Rattle.rules.specs.Entries.{Source, block, named, located, spoken, locked_place, next};
 ghost use Rattle.lists.specs.Walks.{caller_of, level_by, taken, tlp_at, entry_check, Standing, Sits};
@@ -21,7 +22,6 @@ pub trait Entries {
     /// How many entries there are.
     fn count(&self) -> usize
         ensures is { result ≡ count self.now }
-        ensures few { result ≤ 255 }
         ensures standing { Standing (source self.now) result };
 
     /// How many bytes of the data name each entry.
@@ -65,16 +65,16 @@ fn tlp_in(bytes: &[u8], at: usize) -> Tlp
 /// Entries that the data names: three numbers stand before each.
 #[derive(Clone, Copy, Debug, PartialEq, Eq)]
 pub struct Named {
-    pub count: Count,
+    pub count: usize,
 }
 
 impl Entries for Named {
     ghost source = { λ self. named };
 
-    ghost count = { λ self. self.count.0 };
+    ghost count = { λ self. self.count };
 
     fn count(&self) -> usize {
-        self.count.0 as usize
+        self.count
     }
 
     fn step(&self) -> usize {
@@ -111,9 +111,7 @@ pub struct Block {
     pub logical: Logical,
     pub start: Parameter,
     pub count: Count,
-    ghost of_type: { index < 6 },
-    ghost of_logical: { logical.0 < logicals gateway index },
-    ghost of_parameters: { start.0 + count.0 ≤ height (point index) },
+    ghost of_build: { (e : ℕ) → e < count.0 → Here gateway index logical.0 (start.0 + e) },
 }
 
 impl Entries for Block {
@@ -151,11 +149,10 @@ impl Entries for Block {
     }
 }
 
-/// Entries that the locations of a table name, three bytes each. A table has 44 locations at most.
+/// Entries that the locations of a table name, three bytes each.
 #[derive(Clone, Copy)]
 pub struct Located<'a> {
     pub locations: &'a [u8],
-    ghost room: { length locations.now ≤ 132 },
 }
 
 impl Entries for Located<'_> {

@@ -16,4 +16,4 @@ keeping_all h c = c >>= λ ws. pass (keeping h ws)
 
 -- 180 and 181: as many parameters as the first byte says
 unfoldable pub named_list : List ℕ → Check Named
-named_list d = counted d >>= λ _. pass (record { count = record { 0 = get_or d 0 0 } })
+named_list d = counted d >>= λ _. pass (record { count = get_or d 0 0 })

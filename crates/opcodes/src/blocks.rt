@@ -4,6 +4,7 @@ ghost use Rattle.std.specs.Prelude.{◌≡◌, ◌≤◌, ℕ, List, length, IfO
 ghost use Rattle.faults.specs.Faults.{check_of};
 ghost use Rattle.points.specs.Types.{gateway};
 ghost use Rattle.rules.specs.Opcodes.{plan166, plan167};
+ghost use Rattle.lists.specs.Walks.{Run};
 ghost use Rattle.opcodes.specs.Done.{held, said, done, space_by, store_by};
 ghost use Rattle.opcodes.specs.Blocks.{spanned, block_check};
 
@@ -20,6 +21,7 @@ use store::Store;
 fn span(request: &Request) -> Result<Block, Fault>
     ensures is { block_check result ≡ spanned request.now.bytes.now }
     ensures some { IfOk result (λ block. 1 ≤ block.count.0) }
+    ensures run { IfOk result (λ block. Run block.index block.logical.0 block.start.0 block.count.0) }
     ensures four { IfOk result (λ block. 4 ≤ length request.now.bytes.now) }
 {
     let bytes = request.bytes;

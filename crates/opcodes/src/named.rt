@@ -11,7 +11,6 @@ use crate::{Request, walks};
 use faults::{Fault, Refusal, require};
 use frame::Reply;
 use lists::Named;
-use points::Count;
 use store::Store;
 
 /// The list that the data name: how many parameters.
@@ -19,11 +18,12 @@ use store::Store;
 fn count(request: &Request) -> Result<Named, Fault>
     ensures is { check_of result ≡ named_list request.now.bytes.now }
     ensures some { IfOk result (λ list. 1 ≤ length request.now.bytes.now) }
+    ensures few { IfOk result (λ list. list.count ≤ 255) }
 {
     require(1 <= request.bytes.len(), Refusal::Length, 0)?;
     require(request.bytes[0] != 0, Refusal::CountZero, 0)?;
     Ok(Named {
-        count: Count(request.bytes[0]),
+        count: request.bytes[0] as usize,
     })
 }
 

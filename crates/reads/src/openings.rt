@@ -1,5 +1,5 @@
 //! What the reply to a list that is read begins with.
-ghost use Rattle.std.specs.Prelude.{◌≡◌, ◌≤◌, ◌<◌, ℕ, List, [], ◌∷◌, length, get_or, take};
+ghost use Rattle.std.specs.Prelude.{◌≡◌, ◌≤◌, ◌<◌, ◌/◌, ℕ, List, [], ◌∷◌, length, get_or, take};
 ghost use Rattle.base.specs.Lists.{put};
 ghost use Rattle.points.specs.Types.{gateway, logicals, tables};
 ghost use Rattle.rules.specs.Deeds.{Piece, plain, held, sizes, told};
@@ -17,14 +17,15 @@ pub trait Readable: Entries {
     /// What the reply begins with, for the data of the request.
     ghost opening: { Self → List ℕ → List Piece };
 
-    /// What is known of the data by then.
+    /// What is known of the list and its data by then.
     ghost ready: { Self → List ℕ → Type 0 };
 
-    /// How many bytes the reply begins with.
+    /// How many bytes the reply begins with. A list that is ready has 255 entries at most.
     fn opening_size(&self, bytes: &[u8]) -> usize
         requires { ready self.now bytes.now }
         ensures is { result ≡ sizes (opening self.now bytes.now) }
-        ensures small { result ≤ 7 };
+        ensures small { result ≤ 7 }
+        ensures few { Self.count self.now ≤ 255 };
 
     /// Tells them, from place 6 of the reply on.
     fn begin(&self, bytes: &[u8], store: &Store, reply: &mut Reply)
@@ -37,7 +38,7 @@ pub trait Readable: Entries {
 impl Readable for Named {
     ghost opening = { λ self d. plain (take 1 d) ∷ [] };
 
-    ghost ready = { λ self d. 1 ≤ length d };
+    ghost ready = { λ self d. (1 ≤ length d) × (self.count ≤ 255) };
 
     fn opening_size(&self, _bytes: &[u8]) -> usize {
         1
@@ -53,7 +54,7 @@ impl Readable for Named {
 impl Readable for Located<'_> {
     ghost opening = { λ self d. held tables (get_or d 0 0) 0 1 ∷ plain (take 3 d) ∷ [] };
 
-    ghost ready = { λ self d. (3 ≤ length d) × (get_or d 0 0 < logicals gateway tables) };
+    ghost ready = { λ self d. (3 ≤ length d) × (get_or d 0 0 < logicals gateway tables) × (length self.locations.now / 3 ≤ 255) };
 
     #[tactic(auto, using(crate::proofs::Opened::table_opening))]
     fn opening_size(&self, _bytes: &[u8]) -> usize {
