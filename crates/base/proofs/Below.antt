@@ -32,6 +32,19 @@ at-below (suc n) f e k h = go (at-below n f (both_right (f n) (below n f) e) k) 
     go rest (yes d) = rw d (both_left (f n) (below n f) e)
     go rest (no d) = rest (omega arith)
 
+-- the same of what is no test: P at each number below n
+abbrev pub Each : (ℕ → Type 0) → ℕ → Type 0
+Each P zero = Unit
+Each P (suc n) = P n × Each P n
+
+pub each_below : (P : ℕ → Type 0) (n : ℕ) → Each P n → (k : ℕ) → k < n → P k
+each_below P zero e k h = absurd (omega arith)
+each_below P (suc n) e k h = go (each_below P n e.1 k) (ℕ_discrete k n)
+  where
+    go : (k < n → P k) → Dec (k ≡ n) → P k
+    go rest (yes d) = rw d e.0
+    go rest (no d) = rest (omega arith)
+
 -- no entry of a list is over m, nor what is read past its end
 abbrev pub small : ℕ → List ℕ → Bool
 small m [] = true

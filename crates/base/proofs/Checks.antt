@@ -4,7 +4,7 @@ use Prim.Native.Nat.{ℕ}
 use mathlib.Core.Path.{◌≡◌, refl, ap, ◌∙◌}
 use mathlib.Core.Bool.{Bool, true, false}
 use mathlib.Core.List.{List, [], ◌∷◌}
-use Rattle.base.specs.Check.{Check, fault, pass, ◌>>=◌, test}
+use Rattle.base.specs.Check.{Check, fault, pass, ◌>>=◌, test, outcome_of}
 use Rattle.base.specs.Lists.{All}
 
 -- two that go on from the same check are equal if they are past it
@@ -110,3 +110,9 @@ pub first-test : {B : Type 0} (b : Bool) (n p : ℕ) (x : Check B) {y : B} → (
 unfolding ◌>>=◌ test
 first-test true n p x e = refl
 first-test false n p x e = cc
+
+-- a check and nothing behind it: what it comes to is the check's own
+pub last-same : (c : Check Unit) → outcome_of (c >>= λ _. pass (tt {0})) ≡ outcome_of c
+unfolding outcome_of ◌>>=◌
+last-same (fault n p) = refl
+last-same (pass a) = refl

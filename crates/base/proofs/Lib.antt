@@ -1,4 +1,5 @@
 pub mod Below
+pub mod Tests
 pub mod Checks
 pub mod Sums
 pub mod Parts

@@ -13,6 +13,12 @@ use Rattle.base.proofs.Below.{at-below}
 use lib.Bits.{bit_xor, xor_shr, xor_mod, xor_assoc, xor_comm, xor_zero_r, xor_shifted, shifted_half, shifted_even}
 use Rattle.crc.specs.Crc.{turn, turns4, turned}
 
+-- a fact of the two binary digits holds of a number below 2
+pub two : (P : ℕ → Type 0) → P 0 → P 1 → (x : ℕ) → x < 2 → P x
+two P p q zero h = p
+two P p q (suc zero) h = q
+two P p q (suc (suc n)) h = absurd (omega arith)
+
 odd_lt : (n : ℕ) → n % 2 < 2
 odd_lt n = mod-lt n (zero-lt-suc 1)
 

@@ -5,11 +5,12 @@ use mathlib.Core.List.{List, [], ◌∷◌, ◌++◌, map, append_assoc}
 use Prim.Native.Nat.{ℕ, zero, suc, ◌+◌, ◌-◌, ◌≤◌, ◌<◌}
 use native.Mathlib.Nat.{not-suc-le-zero}
 use native.Mathlib.Omega.{arith}
-use borrow.Author.Tests.{lt-ltb, le-ltb}
+use borrow.Author.Tests.{lt-ltb, le-ltb, eqb-true}
+use lib.Dec.{eqb}
 use lib.ListN.{length, get_or, drop, get_or-map}
 use lib.Seq.{get_or-drop}
 use Rattle.base.specs.Bytes.{ascii, padded}
-use Rattle.base.proofs.Below.{entry-small}
+use Rattle.base.proofs.Below.{at-below, entry-small}
 use Rattle.points.specs.Row.{Row, no_row}
 use Rattle.points.specs.Columns.{all_rows, row_at}
 use Rattle.store.specs.Fresh.{digits, two_digits}
@@ -46,6 +47,14 @@ tag (suc (suc (suc (suc (suc (suc (suc zero))))))) h = refl
 tag (suc (suc (suc (suc (suc (suc (suc (suc zero)))))))) h = refl
 tag (suc (suc (suc (suc (suc (suc (suc (suc (suc zero))))))))) h = refl
 tag (suc (suc (suc (suc (suc (suc (suc (suc (suc (suc r)))))))))) h = absurd (omega arith)
+
+-- a tag has ten bytes, and so there is room for it
+pub tag_long : (r : ℕ) → r < 10 → (row_at r).len ≡ 10
+unfolding row_at
+tag_long r h = eqb-true _ _ (at-below 10 (λ j. eqb (row_at j).len 10) refl r h)
+
+pub tag_room : (s : List ℕ) (at r : ℕ) → r < 10 → at + (row_at r).len ≤ length s → at + 10 ≤ length s
+tag_room s at r h k = omega (arith, tag_long r h)
 
 abbrev words_long : Row → ℕ
 words_long r = length (row_words r)

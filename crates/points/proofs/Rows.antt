@@ -73,6 +73,16 @@ offset_row i k h =
     ∙ starts-at (lens (point i)) 0 k (rw n h)
     ∙ zero-add (sum (take k (lens (point i))))
 
+-- what is none of the first five is the sixth
+pub sixth : (i : ℕ) → i < 6 → ((((Unit {0} × (i ≡ 0 → ⊥)) × (i ≡ 1 → ⊥)) × (i ≡ 2 → ⊥)) × (i ≡ 3 → ⊥)) × (i ≡ 4 → ⊥) → i ≡ 5
+sixth zero h q = absurd (q.0.0.0.0.1 refl)
+sixth (suc zero) h q = absurd (q.0.0.0.1 refl)
+sixth (suc (suc zero)) h q = absurd (q.0.0.1 refl)
+sixth (suc (suc (suc zero))) h q = absurd (q.0.1 refl)
+sixth (suc (suc (suc (suc zero)))) h q = absurd (q.1 refl)
+sixth (suc (suc (suc (suc (suc zero))))) h q = refl
+sixth (suc (suc (suc (suc (suc (suc i)))))) h q = absurd (omega arith)
+
 pub row_reads : (i k : ℕ) → k < height (point i) → get_or read_levels (first i + k) 0 ≡ (point i).reads
 unfolding read_levels
 row_reads i k h = column_at reads_of refl (λ p. length-replicate (height p) p.reads) i k h ∙ get_or-replicate _ k _ 0 h

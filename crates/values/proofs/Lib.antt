@@ -1,6 +1,8 @@
 pub mod Paired
 pub mod Nans
+pub mod Among
 pub mod Table
+pub mod Judging
 pub mod Widths
 pub mod Read
 pub mod SameReading
