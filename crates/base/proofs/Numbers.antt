@@ -13,7 +13,7 @@ use Rattle.base.specs.Bytes.{le}
 use Rattle.base.proofs.Parts.{part-cons, part_all}
 
 -- the number of two lists, one behind the other
-le-append : (x y : List ℕ) → le (x ++ y) ≡ le x + 256 ^ length x * le y
+pub le-append : (x y : List ℕ) → le (x ++ y) ≡ le x + 256 ^ length x * le y
 unfolding le
 le-append [] y = omega arith
 le-append (b ∷ x) y =

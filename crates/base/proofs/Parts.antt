@@ -46,7 +46,7 @@ module _ (s v : List ℕ) (a : ℕ) (fits : a + length v ≤ length s) where
   head-length = simp (length-append, length-take) (omega arith)
 
   -- a part that ends at or before the place
-  part-before : (b n : ℕ) → b + n ≤ a → part (put s a v) b n ≡ part s b n
+  pub part-before : (b n : ℕ) → b + n ≤ a → part (put s a v) b n ≡ part s b n
   unfolding put part
   part-before b n h =
       sym (drop-take b n (take a s ++ v ++ drop (a + length v) s))
@@ -55,7 +55,7 @@ module _ (s v : List ℕ) (a : ℕ) (fits : a + length v ≤ length s) where
       ∙ drop-take b n s
 
   -- a part that begins behind what was put
-  part_behind : (b n : ℕ) → a + length v ≤ b → part (put s a v) b n ≡ part s b n
+  pub part_behind : (b n : ℕ) → a + length v ≤ b → part (put s a v) b n ≡ part s b n
   unfolding put part
   part_behind b n h =
       let k : ℕ = b - (a + length v) in

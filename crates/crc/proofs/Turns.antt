@@ -19,7 +19,7 @@ two P p q zero h = p
 two P p q (suc zero) h = q
 two P p q (suc (suc n)) h = absurd (omega arith)
 
-odd_lt : (n : ℕ) → n % 2 < 2
+pub odd_lt : (n : ℕ) → n % 2 < 2
 odd_lt n = mod-lt n (zero-lt-suc 1)
 
 -- of two binary digits
@@ -32,7 +32,7 @@ scaled (suc zero) (suc zero) h k = refl
 scaled (suc zero) (suc (suc y)) h k = absurd (omega arith)
 scaled (suc (suc x)) y h k = absurd (omega arith)
 
-xor_swap : (a b c d : ℕ) → bit_xor (bit_xor a b) (bit_xor c d) ≡ bit_xor (bit_xor a c) (bit_xor b d)
+pub xor_swap : (a b c d : ℕ) → bit_xor (bit_xor a b) (bit_xor c d) ≡ bit_xor (bit_xor a c) (bit_xor b d)
 xor_swap a b c d =
     xor_assoc a b (bit_xor c d)
     ∙ ap (λ (x : ℕ). bit_xor a x) (sym (xor_assoc b c d) ∙ ap (λ (x : ℕ). bit_xor x d) (xor_comm b c) ∙ xor_assoc c b d)

@@ -46,7 +46,7 @@ unfoldable computing : ℕ
 unfolding call run placing part put over value values storing fresh there ◌>>=◌ test from turn turns4 crc_byte crc_from crc_of leap month_days valid_date valid_clock clock_of same_address stationary for_us data_of crc_right whole directed sealed frame_of received shown told found next ends fitting reading counted plan180 opcode_of plan sent carried admitted answer
 computing = 0
 
-alike : (K : ℕ) (w : Write) → Sound gateway w → K < (point w.type).reads → Alike gateway K (start (fresh gateway)) (start (fresh_but w))
+pub alike : (K : ℕ) (w : Write) → Sound gateway w → K < (point w.type).reads → Alike gateway K (start (fresh gateway)) (start (fresh_but w))
 alike K w o hidden =
     record {
       whole = length-fresh gateway;

@@ -68,7 +68,7 @@ module _ (b : Build) (level : Point → ℕ) (who : Caller) where
   unfolding found
   found-says t l k pt pl pk = follow (there-says b t l k pt pl pk) λ _. ask λ _. say
 
-  next-says : (src : Source) (d : List ℕ) (at : ℕ) → Says (next b level who src d at) (entry_table b level who src d at)
+  pub next-says : (src : Source) (d : List ℕ) (at : ℕ) → Says (next b level who src d at) (entry_table b level who src d at)
   unfolding next
   next-says (block i l k) d at = say
   next-says named d at = ask λ _. found-says _ _ _ _ _ _
@@ -96,7 +96,7 @@ judged-says b r l v at = go (of_kind b r.kind v) (in_range b r.range l v)
     go true false = record { says = ap (fault 27) (add-zero at) }
     go false y = record { says = ap (fault 27) (add-zero at) }
 
-accepts-says : (b : Build) (who : Caller) (s : List ℕ) (ws : List Write) (p : Named) (d : List ℕ) (locked at : ℕ)
+pub accepts-says : (b : Build) (who : Caller) (s : List ℕ) (ws : List Write) (p : Named) (d : List ℕ) (locked at : ℕ)
     → Says (accepts b who s ws p d locked at) (value_table b who s ws p d locked at)
 unfolding accepts
 accepts-says b who s ws p d locked at =

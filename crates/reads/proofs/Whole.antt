@@ -40,7 +40,7 @@ two_tested true false n p m q ps = refl
 two_tested false b n p m q ps = refl
 
 -- the pieces of an entry
-abbrev told_of : ℕ → List ℕ → Named → List Piece → List Piece
+abbrev pub told_of : ℕ → List ℕ → Named → List Piece → List Piece
 told_of n d p ps = held p.type p.logical p.parameter 1 ∷ plain (take n d) ∷ ps
 
 module _ (who : rules.Caller) (d : List ℕ) where
@@ -87,7 +87,7 @@ passes_test false n p x h = absurd h
 
 module _ (who : rules.Caller) (d : List ℕ) where
   -- a check that passes has passed its size all the way
-  never_over : (n : ℕ) (src : Source) (at size : ℕ) → Passes (sizing who src n d at size) → size ≤ 255
+  pub never_over : (n : ℕ) (src : Source) (at size : ℕ) → Passes (sizing who src n d at size) → size ≤ 255
   unfolding sizing
   never_over zero src at size h =
       let x = passes_test (leb (length d) at) 21 at (test (leb size 255) 28 0 >>= λ _. pass size) h in
@@ -147,7 +147,7 @@ module _ (who : rules.Caller) (s r : List ℕ) (d : List ℕ) (whole : length s 
       let ta : 6 + length (t ++ a) ≡ 6 + length t + n = rw length-append (omega (arith, la)) in
       (rw (m, one, ← end, put_join r t a 6 (omega (arith, long, la, fit, size)), ← ta) (put_join r (t ++ a) v 6 (omega (arith, ta, long, lv, fit, size))), rw (one, size) (simp length-append (omega (arith, long, la, lv))))
 
-  fits_255 : (n : ℕ) (src : Source) (at : ℕ) (ps : List Piece) {done : List Piece} → at ≤ length d → reading gateway who src n (drop at d) at ps ≡ pass done → sizes ps ≤ 255
+  pub fits_255 : (n : ℕ) (src : Source) (at : ℕ) (ps : List Piece) {done : List Piece} → at ≤ length d → reading gateway who src n (drop at d) at ps ≡ pass done → sizes ps ≤ 255
   fits_255 n src at ps i e = never_over who d n src at (sizes ps) (rw (← walked who d n src at ps i) (passes_of _ e))
 
   told_walked : (n : ℕ) (src : Source) (at : ℕ) (ps done : List Piece) → Standing src n → at ≤ length d → length (told gateway s ps) ≡ sizes ps

@@ -26,7 +26,7 @@ pub tables_open : (point tables).reads ≤ 0
 unfolding point points
 tables_open = omega arith
 
-segments_open : (point segments).reads ≤ 0
+pub segments_open : (point segments).reads ≤ 0
 unfolding point points
 segments_open = omega arith
 
@@ -51,7 +51,7 @@ values_same b K s t same i l k (suc n) hl hr =
 
 -- ---- the same values stored in both
 
-storing-same : (b : Build) (K : ℕ) (s t : List ℕ) → length s ≡ store_size b → length t ≡ store_size b → (w : Write) → Sound b w
+pub storing-same : (b : Build) (K : ℕ) (s t : List ℕ) → length s ≡ store_size b → length t ≡ store_size b → (w : Write) → Sound b w
     → Agree b K s t → Agree b K (storing b s w) (storing b t w)
 storing-same b K s t ls lt w o same i l k h r = go (names? w i l k)
   where

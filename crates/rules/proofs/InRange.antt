@@ -52,7 +52,7 @@ module _ (b : Build) (s : List ℕ) (w : Write) (whole : length s ≡ store_size
       go true e old = pair-kept l k (rw (eqb-true i segments e) at h) old (mates? w l k)
       go false e old = refl
 
-  storing_in_range : InRange b (storing b s w)
+  pub storing_in_range : InRange b (storing b s w)
   storing_in_range i l k hl hk = go (names? w i l k)
     where
       go : Names w i l k ⊎ (Names w i l k → ⊥) → Ranged b (storing b s w) (holding b (storing b s w) i l k)

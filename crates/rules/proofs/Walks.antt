@@ -6,18 +6,19 @@ use mathlib.Core.Path.{◌≡◌, refl}
 use mathlib.Core.Bool.{true}
 use mathlib.Core.List.{List, [], ◌∷◌}
 use borrow.Author.Tests.{leb-true}
+use lib.Dec.{leb}
 use lib.ListN.{length}
 use lib.Seq.{length-take-le}
 use Rattle.base.specs.Check.{Check, fault, pass, from}
 use Rattle.base.specs.Lists.{All}
-use Rattle.base.proofs.Checks.{Holds, faulty, passing, step, step_with, step-test}
+use Rattle.base.proofs.Checks.{Holds, faulty, passing, step, step_with, step-test, first_passes, first-test}
 use Rattle.points.specs.Types.{Build, point, row}
 use Rattle.points.specs.Place.{len_at}
 use Rattle.store.specs.Store.{Write, stored}
 use Rattle.store.proofs.Laws.{Sound}
 use Rattle.rules.specs.Deeds.{Piece, sizes}
-use Rattle.rules.specs.Entries.{Caller, request, reaches, may_write, Named, Source, after}
-use Rattle.rules.specs.Lists.{read_level, write_level, fitting, reading, entry, accepts, writing}
+use Rattle.rules.specs.Entries.{Caller, request, reaches, may_write, Named, Source, after, next}
+use Rattle.rules.specs.Lists.{read_level, write_level, ends, fitting, reading, entry, accepts, writing}
 use Rattle.rules.proofs.Told.{Readable}
 use Rattle.rules.specs.InRange.{Ranged, Judged}
 use Rattle.rules.proofs.Found.{Stands, Reached, Ready, next-holds, ready-after}
@@ -38,6 +39,18 @@ reading-tells b L src (suc n) d at ps r q =
     step_with (next-holds b read_level (request L) src n d at r) λ p f.
     reading-tells b L (after src) n _ _ _ (ready-after b read_level (request L) src n r)
     ((f.stands.logical, omega (arith, f.stands.parameter), leb-true _ _ f.enough), (tt, q))
+
+-- a reading that passes has passed its size all the way
+pub never_over : (b : Build) (who : Caller) (src : Source) (n : ℕ) (d : List ℕ) (at : ℕ) (ps : List Piece) {all : List Piece}
+    → reading b who src n d at ps ≡ pass all → sizes ps ≤ 255
+unfolding reading fitting
+never_over b who src zero d at ps h =
+    let x = first_passes (ends d at) h in
+    leb-true _ _ (first-test (leb (sizes ps) 255) 28 0 (pass ps) x.1.1)
+never_over b who src (suc n) d at ps h =
+    let x = first_passes (next b read_level who src d at) h in
+    let y = never_over b who (after src) n _ _ _ x.1.1 in
+    omega arith
 
 -- ---- writing
 
@@ -77,7 +90,7 @@ accepts-holds b who s ws p d locked at =
 pub entry-sound : (b : Build) (p : Named) (d : List ℕ) → Stands b p → len_at p.type p.parameter ≤ length d → Sound b (entry p d)
 entry-sound b p d w long = record { logical = w.logical; parameter = w.parameter; long = length-take-le _ _ long }
 
-one_more : (b : Build) (who : Caller) (s : List ℕ) (ws : List Write) (p : Named) (d : List ℕ) → Reached b write_level who p → Accepted b who s ws p d
+pub one_more : (b : Build) (who : Caller) (s : List ℕ) (ws : List Write) (p : Named) (d : List ℕ) → Reached b write_level who p → Accepted b who s ws p d
     → Puts b who s ws → Puts b who s (entry p d ∷ ws)
 one_more b who s ws p d f a c =
     record {
