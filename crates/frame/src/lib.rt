@@ -144,7 +144,7 @@ pub struct Heading {
 impl Heading {
     /// The six bytes before `count` bytes of data.
     #[tactic(auto, unfolding(base::specs::Lists::put))]
-    fn put(self, reply: &mut [u8], count: u8)
+    pub fn put(self, reply: &mut [u8], count: u8)
         requires { 6 ≤ length reply.old }
         ensures { reply.new ≡ put reply.old 0 (heading self.to self.us self.opcode count) }
     {
@@ -168,7 +168,7 @@ impl Heading {
 
 /// The CRC of the first `end` bytes, behind them.
 #[tactic(auto, unfolding(base::specs::Lists::put))]
-fn seal(reply: &mut [u8], end: usize)
+pub fn seal(reply: &mut [u8], end: usize)
     requires { end + 2 ≤ length reply.old }
     ensures { reply.new ≡ put reply.old end (crc_bytes (take end reply.old)) }
 {

@@ -1,14 +1,19 @@
 -- Each constant table is the column of the rows, by computation.
 -- Assumes nothing.
-use mathlib.Core.Path.{◌≡◌, ◌∙◌}
+use mathlib.Core.Path.{◌≡◌, refl, ◌∙◌}
+use mathlib.Core.Bool.{Bool, true}
 use mathlib.Core.List.{map}
-use Prim.Native.Nat.{ℕ, ◌<◌}
+use Prim.Native.Nat.{ℕ, ◌≤◌, ◌<◌}
 use native.Mathlib.Nat.{zero-add}
+use lib.Dec.{leb}
+use borrow.Author.Tests.{leb-true}
 use lib.ListN.{get_or, get_or-map}
-use Rattle.points.specs.Row.{Row, no_row}
+use Rattle.base.proofs.Below.{at-below}
+use Rattle.points.specs.Row.{Row, Kind, text, unsigned, signed, single, double, tlp, no_row}
 use Rattle.points.specs.Types.{gateway}
 use Rattle.points.specs.Place.{areas, base, row_len}
 use Rattle.points.specs.Columns.{all_rows, row_at, starts, kind_of, access_of, range_of, initial_of}
+use Rattle.points.specs.declared.Kind.TheVariants.{Unsigned}
 use Rattle.points.proofs.Rows.{starts-at}
 
 -- a column, whatever it says of a row
@@ -34,3 +39,25 @@ initial_column row = by_row (λ r. initial_of r.default) row
 pub base_column : (i : ℕ) → i < 6 → get_or (starts 0 (areas gateway)) i 0 ≡ base gateway i
 unfolding base areas
 base_column i h = starts-at (areas gateway) 0 i h ∙ zero-add (base gateway i)
+
+-- no unsigned value is longer than four bytes: a test of each row, which is computed
+abbrev short : Kind → ℕ → Bool
+short text n = true
+short unsigned n = leb n 4
+short signed n = true
+short single n = true
+short double n = true
+short tlp n = true
+
+short-unsigned : (k : Kind) (n : ℕ) → Unsigned ≡ kind_of k → short k n ≡ true → n ≤ 4
+short-unsigned text n e h = cc
+short-unsigned unsigned n e h = leb-true n 4 h
+short-unsigned signed n e h = cc
+short-unsigned single n e h = cc
+short-unsigned double n e h = cc
+short-unsigned tlp n e h = cc
+
+pub unsigned_short : (row : ℕ) → row < 175 → Unsigned ≡ kind_of (row_at row).kind → (row_at row).len ≤ 4
+unfolding row_at
+unsigned_short row h e =
+    short-unsigned (row_at row).kind (row_at row).len e (at-below 175 (λ r. short (row_at r).kind (row_at r).len) refl row h)

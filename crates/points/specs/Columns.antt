@@ -1,6 +1,6 @@
 -- The rows of all types as one list, and its columns: what the constant tables of the code hold.
 -- Assumes nothing.
-use Rattle.std.specs.Prelude.{ℕ, ◌+◌, List, [], ◌∷◌, map, get_or, replicate}
+use Rattle.std.specs.Prelude.{ℕ, ◌+◌, ◌-◌, ◌^◌, List, [], ◌∷◌, map, get_or, replicate}
 use Rattle.base.specs.Lists.{joined}
 use Rattle.points.specs.Row as Row
 use Rattle.points.specs.Row.{Row, text, unsigned, signed, single, double, tlp, read_write, read_only, read_only_first, any, between, status, rate, size, number, Default, figure, words, soft_point, segment, full_first, no_row}
@@ -57,7 +57,51 @@ initial_of soft_point = SoftPoint
 initial_of segment = Segment
 initial_of full_first = FullFirst
 
+-- ---- the same as numbers
+
+-- the least and the most that a range allows a number of n bytes; a set and a status have none
+abbrev pub least_of : Row.Range → ℕ
+least_of any = 0
+least_of (between least most) = least
+least_of status = 0
+least_of rate = 0
+least_of size = 0
+least_of number = 0
+
+abbrev pub most_of : Row.Range → ℕ → ℕ
+most_of any n = 256 ^ n - 1
+most_of (between least most) n = most
+most_of status n = 0
+most_of rate n = 0
+most_of size n = 240
+most_of number n = 0
+
+abbrev pub most_by : Row.Kind → Row.Range → ℕ → ℕ
+most_by text q n = 0
+most_by unsigned q n = most_of q n
+most_by signed q n = 0
+most_by single q n = 0
+most_by double q n = 0
+most_by tlp q n = 0
+
+-- the number that a fill leaves, where it is one
+abbrev pub figure_of : Default → ℕ
+figure_of (figure x) = x
+figure_of (words w) = 0
+figure_of soft_point = 0
+figure_of segment = 0
+figure_of full_first = 0
+
 -- ---- the columns
+
+abbrev pub row_least : Row → ℕ
+row_least r = least_of r.range
+
+abbrev pub row_most : Row → ℕ
+row_most r = most_by r.kind r.range r.len
+
+abbrev pub row_figure : Row → ℕ
+row_figure r = figure_of r.default
 
 -- the levels of a row's type
 abbrev pub reads_of : Point → List ℕ

@@ -2,11 +2,14 @@
 #![tactic(auto)]
 
 mod columns;
+mod figures;
 
 ghost use Rattle.std.specs.Prelude.{◌≡◌, ◌+◌, ◌<◌, ◌≤◌, get_or, MatchOption, IfOk};
 ghost use Rattle.points.specs.Types.{index_of, point, height, logicals, gateway};
 ghost use Rattle.points.specs.Place.{first, base, each, offsets, place_of, Here, spot_of, IsInside};
 ghost use Rattle.points.specs.Columns.{row_at, kind_of, access_of, range_of, initial_of, read_levels, write_levels};
+
+pub use figures::{figure_at, least_at, most_at};
 
 /// A point type's number.
 #[derive(Clone, Copy, Debug, PartialEq, Eq, PartialOrd, Ord)]

@@ -3,9 +3,9 @@
 
 mod pairs;
 mod ranges;
-mod readings;
+pub mod readings;
 mod tlps;
-mod weighing;
+pub mod weighing;
 
 ghost use Rattle.std.specs.Prelude.{◌≡◌, ◌<◌, ◌^◌, true, length};
 ghost use Rattle.std.specs.Float.{binary32, binary64};
