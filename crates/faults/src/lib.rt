@@ -3,6 +3,7 @@
 
 ghost use Rattle.std.specs.Prelude.{◌≡◌};
 ghost use Rattle.faults.specs.Faults.{number_of, required, refused_unless};
+ghost use Rattle.faults.specs.Apart.{RefusalsAreToldApart, FaultsAreToldApart, ResultsAreToldApart, OutcomesAreToldApart};
 
 /// Why a call is refused. The discriminant is the outcome that the firmware and an error frame are told; outcome 0 is no refusal.
 #[derive(Clone, Copy, Debug, PartialEq, Eq)]
@@ -61,3 +62,13 @@ pub fn refuse_unless(holds: bool, refusal: Refusal) -> Result<(), Refusal>
 {
     holds.then_some(()).ok_or(refusal)
 }
+
+/// No two refusals have one outcome, and 0 is none's, so what a contract says of a result, as a check of the rules or by its outcome, leaves no choice
+/// of the result.
+#[tactic(auto, using(crate::proofs::Apart::refusals_apart, crate::proofs::Apart::faults_apart, crate::proofs::Apart::results_apart, crate::proofs::Apart::outcomes_apart))]
+pub fn refusals_are_told_apart<A>()
+    ensures refusals { RefusalsAreToldApart }
+    ensures faults { FaultsAreToldApart A }
+    ensures results { ResultsAreToldApart A }
+    ensures outcomes { OutcomesAreToldApart }
+{}

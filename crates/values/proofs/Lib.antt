@@ -6,6 +6,7 @@ pub mod Judging
 pub mod Widths
 pub mod Read
 pub mod SameReading
+pub mod Apart
 pub mod Named
 pub mod Mates
 pub mod Verdicts

@@ -16,7 +16,7 @@ ghost use Rattle.values.specs.Weighable.{unsigned_long};
 
 pub use pairs::{pair_ok, under};
 pub use ranges::{range_allows, rate_ok, size_ok, status_ok};
-pub use readings::{Number, NumberKind, Raw, number_read, raw_read};
+pub use readings::{Number, NumberKind, Raw, kinds_are_told_apart, number_read, raw_read};
 pub use tlps::{number_tlp_ok, tlp_of, tlp_ok};
 pub use weighing::weigh;
 

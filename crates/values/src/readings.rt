@@ -4,7 +4,7 @@ ghost use Rattle.faults.specs.Faults.{number_of, refusal_check};
 ghost use Rattle.points.specs.Types.{gateway};
 ghost use Rattle.values.specs.Number.{number_read, raw_read};
 ghost use Rattle.values.specs.Bits.{bits_of, bits_read, number_missing};
-ghost use Rattle.values.specs.Raws.{code_of, raw_check};
+ghost use Rattle.values.specs.Raws.{code_of, raw_check, KindsAreToldApart, RawsAreToldApart};
 ghost use Rattle.values.specs.Weighable.{kind_long};
 
 use crate::{double, quad, signed, single, unsigned};
@@ -125,3 +125,10 @@ pub fn raw_read(store: &[u8], tlp: Tlp) -> Result<Raw, Refusal>
     };
     Ok(Raw { kind, bits })
 }
+
+/// No two kinds have one code, so what is said of the reading for C, as a check of the rules, leaves no choice of its result.
+#[tactic(auto, using(crate::proofs::Apart::kinds_apart, crate::proofs::Apart::raws_apart))]
+pub fn kinds_are_told_apart()
+    ensures kinds { KindsAreToldApart }
+    ensures raws { RawsAreToldApart }
+{}
