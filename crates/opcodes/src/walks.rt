@@ -27,6 +27,7 @@ pub fn read<E: Readable>(
 ) -> Result<usize, Fault>
     requires within { from ≤ length request.now.bytes.now }
     requires ready { E.ready entries.now request.now.bytes.now }
+    requires tellable { E.tellable entries.now request.now.bytes.now }
     ensures answer { (c : List ℕ) → check_of result ≡ said (telling_all (held store.now c) (reading gateway (asked request.now.level) (E.source entries.now) (E.count entries.now) (drop from request.now.bytes.now) from (E.opening entries.now request.now.bytes.now))) }
     ensures space { (c : List ℕ) → reply.new ≡ space_by aloud store.now reply.old (telling_all (held store.now c) (reading gateway (asked request.now.level) (E.source entries.now) (E.count entries.now) (drop from request.now.bytes.now) from (E.opening entries.now request.now.bytes.now))) }
 {

@@ -21,9 +21,9 @@ revision_long : len_at tables 0 ≡ 4
 unfolding len_at point points
 revision_long = refl
 
-pub revision_here : (d : List ℕ) → (3 ≤ length d) × (get_or d 0 0 < logicals gateway tables) → Here gateway tables (get_or d 0 0) 0
+pub revision_here : (d : List ℕ) → get_or d 0 0 < logicals gateway tables → Here gateway tables (get_or d 0 0) 0
 unfolding point points
-revision_here d h = record { type = omega arith; logical = h.1; parameter = omega arith }
+revision_here d h = record { type = omega arith; logical = h; parameter = omega arith }
 
 pub table_opening : (d : List ℕ) → 3 ≤ length d → 7 ≡ sizes (held tables (get_or d 0 0) 0 1 ∷ plain (take 3 d) ∷ [])
 table_opening d h = omega (arith, length-take-le 3 d h, span_one tables 0, revision_long)

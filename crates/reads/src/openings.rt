@@ -17,8 +17,11 @@ pub trait Readable: Entries {
     /// What the reply begins with, for the data of the request.
     ghost opening: { Self → List ℕ → List Piece };
 
-    /// What is known of the list and its data by then.
+    /// What is known of the list and its data where the list is checked.
     ghost ready: { Self → List ℕ → Type 0 };
+
+    /// What is known besides where it is told.
+    ghost tellable: { Self → List ℕ → Type 0 };
 
     /// How many bytes the reply begins with. A list that is ready has 255 entries at most.
     fn opening_size(&self, bytes: &[u8]) -> usize
@@ -30,6 +33,7 @@ pub trait Readable: Entries {
     /// Tells them, from place 6 of the reply on.
     fn begin(&self, bytes: &[u8], store: &Store, reply: &mut Reply)
         requires ready { ready self.now bytes.now }
+        requires tellable { tellable self.now bytes.now }
         ensures is { reply.new ≡ put reply.old 6 (told gateway store.now (opening self.now bytes.now)) }
         ensures long { length (told gateway store.now (opening self.now bytes.now)) ≡ sizes (opening self.now bytes.now) };
 }
@@ -39,6 +43,8 @@ impl Readable for Named {
     ghost opening = { λ self d. plain (take 1 d) ∷ [] };
 
     ghost ready = { λ self d. (1 ≤ length d) × (self.count ≤ 255) };
+
+    ghost tellable = { λ self d. Unit {0} };
 
     fn opening_size(&self, _bytes: &[u8]) -> usize {
         1
@@ -54,7 +60,9 @@ impl Readable for Named {
 impl Readable for Located<'_> {
     ghost opening = { λ self d. held tables (get_or d 0 0) 0 1 ∷ plain (take 3 d) ∷ [] };
 
-    ghost ready = { λ self d. (3 ≤ length d) × (get_or d 0 0 < logicals gateway tables) × (length self.locations.now / 3 ≤ 255) };
+    ghost ready = { λ self d. (3 ≤ length d) × (length self.locations.now / 3 ≤ 255) };
+
+    ghost tellable = { λ self d. get_or d 0 0 < logicals gateway tables };
 
     #[tactic(auto, using(crate::proofs::Opened::table_opening))]
     fn opening_size(&self, _bytes: &[u8]) -> usize {

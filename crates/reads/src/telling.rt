@@ -36,6 +36,7 @@ pub fn tell<E: Readable>(
     requires short { length bytes.now ≤ 255 }
     requires within { from ≤ length bytes.now }
     requires ready { E.ready entries.now bytes.now }
+    requires tellable { E.tellable entries.now bytes.now }
     requires passes { Passes (sized (reading gateway (caller_of who) (E.source entries.now) (E.count entries.now) (drop from bytes.now) from (E.opening entries.now bytes.now))) }
     ensures { reply.new ≡ put reply.old 6 (told gateway store.now (pieces_of (reading gateway (caller_of who) (E.source entries.now) (E.count entries.now) (drop from bytes.now) from (E.opening entries.now bytes.now)))) }
 {
