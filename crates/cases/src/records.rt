@@ -1,6 +1,6 @@
 //! A case as a file holds it.
 
-ghost use Rattle.std.specs.Prelude.{◌≤◌};
+ghost use Rattle.std.specs.Prelude.{◌≡◌, ◌≤◌, take};
 
 use std::io::Read;
 
@@ -16,7 +16,8 @@ pub struct Record {
 }
 
 impl Record {
-    /// The next record. None behind the last whole one, nor from one whose frame is longer than it has room for.
+    /// The next record. None behind the last whole one, nor from one whose frame is longer than it has room for. No clause says what a reader
+    /// gives: that the frame fits is the type's.
     pub fn read(cases: &mut impl Read) -> Option<Record> {
         let mut bytes = [0u8; SIZE];
         cases.read_exact(&mut bytes).ok()?;
@@ -34,12 +35,16 @@ impl Record {
     }
 
     /// The level that the request comes with.
-    pub fn level(&self) -> u8 {
+    pub fn level(&self) -> u8
+        ensures { result ≡ self.now.level }
+    {
         self.level
     }
 
     /// The request's frame.
-    pub fn frame(&self) -> &[u8] {
+    pub fn frame(&self) -> &[u8]
+        ensures { result.now ≡ take self.now.count self.now.frame }
+    {
         &self.frame[..self.count]
     }
 }
