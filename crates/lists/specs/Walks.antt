@@ -57,9 +57,15 @@ pub record Run (i l k n : ℕ) : Type 0 where
 
 -- what is known of a list of n entries: all parameters of a block are of the build
 abbrev pub Standing : Source → ℕ → Type 0
-Standing (block i l k) n = (e : ℕ) → e < n → Here gateway i l (k + e)
+Standing (block i l k) n = Run i l k n
 Standing named n = Unit {0}
 Standing (located bs) n = Unit {0}
+
+-- the same, asked of each entry: a block of none may be any
+abbrev pub AnyStanding : Source → ℕ → Type 0
+AnyStanding (block i l k) n = (e : ℕ) → e < n → Here gateway i l (k + e)
+AnyStanding named n = Unit {0}
+AnyStanding (located bs) n = Unit {0}
 
 -- what is known of an entry that was found: it lies inside the store, and its logical is one of its type's
 pub record Sits (entry : Entry) : Type 0 where

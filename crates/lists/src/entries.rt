@@ -1,17 +1,17 @@
-//! The three kinds of list: a block of parameters, parameters that the data names, and those that a table's locations name.
-ghost use Rattle.std.specs.Prelude.{◌≡◌, ◌+◌, ◌*◌, ◌/◌, ◌<◌, ◌≤◌, ℕ, List, length, drop, IfOk};
-ghost use Rattle.points.specs.Types.{gateway};
-ghost use Rattle.points.specs.Place.{Here};
+//! The three kinds of list, of at most 255 entries; a block lies in the build even if it has none. Each hands its calls on to the list of its kind in `any`.
+ghost use Rattle.std.specs.Prelude.{◌≡◌, ◌+◌, ◌/◌, ◌<◌, ◌≤◌, ℕ, length, drop, IfOk};
+ghost use Rattle.points.specs.Types.{gateway, logicals, point, height};
 ghost use Rattle.faults.specs.Faults.{check_of};
 ghost use Rattle.rules.specs.Entries.{Source, block, named, located, spoken, locked_place, next};
-ghost use Rattle.lists.specs.Walks.{caller_of, level_by, taken, tlp_at, entry_check, Standing, Sits};
+ghost use Rattle.lists.specs.Walks.{caller_of, level_by, taken, entry_check, Standing, Sits};
 
-use crate::finding::{Entry, Places, find};
+use crate::any::{AnyBlock, AnyEntries, AnyLocated, AnyNamed};
+use crate::finding::Entry;
 use crate::{Caller, Purpose};
-use faults::{Fault, Refusal, require};
-use points::{Count, Logical, Parameter, PointType, Tlp};
+use faults::Fault;
+use points::{Count, Logical, Parameter};
 
-/// A list of parameters, one entry after the other.
+/// A list of at most 255 parameters, one entry after the other.
 pub trait Entries {
     /// Where the entries come from, with none taken.
     ghost source: { Self → Source };
@@ -22,6 +22,7 @@ pub trait Entries {
     /// How many entries there are.
     fn count(&self) -> usize
         ensures is { result ≡ count self.now }
+        ensures few { result ≤ 255 }
         ensures standing { Standing (source self.now) result };
 
     /// How many bytes of the data name each entry.
@@ -50,68 +51,105 @@ pub trait Entries {
         ensures inside { IfOk result (λ entry. Sits entry × (at + spoken (source self.now) ≤ length bytes.now)) };
 }
 
-/// The parameter that the three numbers from a place on name.
-fn tlp_in(bytes: &[u8], at: usize) -> Tlp
-    requires { at + 3 ≤ length bytes.now }
-    ensures { result ≡ tlp_at bytes.now at }
-{
-    Tlp {
-        point: PointType(bytes[at]),
-        logical: Logical(bytes[at + 1]),
-        parameter: Parameter(bytes[at + 2]),
+/// A list of at most 255 entries is one of any number.
+impl<E: Entries> AnyEntries for E {
+    ghost source = { λ self. E.source self };
+
+    ghost count = { λ self. E.count self };
+
+    #[tactic(auto, using(crate::proofs::Stood::standing_any))]
+    fn count(&self) -> usize {
+        Entries::count(self)
+    }
+
+    fn step(&self) -> usize {
+        Entries::step(self)
+    }
+
+    fn locked_place(&self, at: usize) -> usize {
+        Entries::locked_place(self, at)
+    }
+
+    fn entry(
+        &self,
+        who: Caller,
+        purpose: Purpose,
+        e: usize,
+        bytes: &[u8],
+        at: usize,
+    ) -> Result<Entry, Fault> {
+        Entries::entry(self, who, purpose, e, bytes, at)
     }
 }
 
-/// Entries that the data names: three numbers stand before each.
+/// At most 255 entries that the data names: three numbers stand before each.
 #[derive(Clone, Copy, Debug, PartialEq, Eq)]
 pub struct Named {
-    pub count: usize,
+    pub count: Count,
+}
+
+impl From<Named> for AnyNamed {
+    ghost from_gives = { λ named any. (any.count ≡ named.count.0) × (any.count ≤ 255) };
+
+    fn from(named: Named) -> AnyNamed {
+        AnyNamed {
+            count: usize::from(named.count.0),
+        }
+    }
 }
 
 impl Entries for Named {
     ghost source = { λ self. named };
 
-    ghost count = { λ self. self.count };
+    ghost count = { λ self. self.count.0 };
 
     fn count(&self) -> usize {
-        self.count
+        AnyNamed::from(*self).count()
     }
 
     fn step(&self) -> usize {
-        3
+        AnyNamed::from(*self).step()
     }
 
     fn locked_place(&self, at: usize) -> usize {
-        at
+        AnyNamed::from(*self).locked_place(at)
     }
 
-    #[tactic(auto, unfolding(crate::specs::Walks::entry_check, base::specs::Check::checks), using(crate::proofs::Next::named_is))]
     fn entry(
         &self,
         who: Caller,
         purpose: Purpose,
-        _e: usize,
+        e: usize,
         bytes: &[u8],
         at: usize,
     ) -> Result<Entry, Fault> {
-        require(at + 3 <= bytes.len(), Refusal::Length, bytes.len() as u8)?;
-        let places = Places {
-            point: at as u8,
-            logical: (at + 1) as u8,
-            parameter: (at + 2) as u8,
-        };
-        find(who, purpose, tlp_in(bytes, at), places)
+        AnyNamed::from(*self).entry(who, purpose, e, bytes, at)
     }
 }
 
-/// A block of parameters of one logical, from one up: its type by index. All of them are of the build.
+/// A block of parameters of one logical, from one up: its type by index. It lies in the build, even where it has none.
 #[derive(Clone, Copy)]
 pub struct Block {
     pub index: usize,
     pub logical: Logical,
     pub start: Parameter,
     pub count: Count,
-    ghost of_build: { (e : ℕ) → e < count.0 → Here gateway index logical.0 (start.0 + e) },
+    ghost of_type: { index < 6 },
+    ghost of_logical: { logical.0 < logicals gateway index },
+    ghost of_parameters: { start.0 + count.0 ≤ height (point index) },
+}
+
+impl From<Block> for AnyBlock {
+    ghost from_gives = { λ block any. (any.index ≡ block.index) × (any.logical ≡ block.logical) × (any.start ≡ block.start) × (any.count ≡ block.count) };
+
+    fn from(block: Block) -> AnyBlock {
+        AnyBlock {
+            index: block.index,
+            logical: block.logical,
+            start: block.start,
+            count: block.count,
+        }
+    }
 }
 
 impl Entries for Block {
@@ -120,39 +158,44 @@ impl Entries for Block {
     ghost count = { λ self. self.count.0 };
 
     fn count(&self) -> usize {
-        self.count.0 as usize
+        AnyBlock::from(*self).count()
     }
 
     fn step(&self) -> usize {
-        0
+        AnyBlock::from(*self).step()
     }
 
     fn locked_place(&self, at: usize) -> usize {
-        at
+        AnyBlock::from(*self).locked_place(at)
     }
 
-    #[tactic(auto, unfolding(rules::specs::Entries::next, crate::specs::Walks::taken, crate::specs::Walks::entry_check, crate::specs::Walks::entry_of, base::specs::Check::checks), using(crate::proofs::Found::sits_here, crate::proofs::Found::height_small))]
     fn entry(
         &self,
-        _who: Caller,
-        _purpose: Purpose,
+        who: Caller,
+        purpose: Purpose,
         e: usize,
-        _bytes: &[u8],
-        _at: usize,
+        bytes: &[u8],
+        at: usize,
     ) -> Result<Entry, Fault> {
-        let parameter = Parameter((self.start.0 as usize + e) as u8);
-        let spot = points::spot_at(self.index, self.logical, parameter);
-        Ok(Entry {
-            spot,
-            logical: self.logical,
-        })
+        AnyBlock::from(*self).entry(who, purpose, e, bytes, at)
     }
 }
 
-/// Entries that the locations of a table name, three bytes each.
+/// Entries that the locations of a table name, three bytes each. A table has 44 locations at most.
 #[derive(Clone, Copy)]
 pub struct Located<'a> {
     pub locations: &'a [u8],
+    ghost room: { length locations.now ≤ 132 },
+}
+
+impl<'a> From<Located<'a>> for AnyLocated<'a> {
+    ghost from_gives = { λ located any. any.locations.now ≡ located.locations.now };
+
+    fn from(located: Located<'a>) -> AnyLocated<'a> {
+        AnyLocated {
+            locations: located.locations,
+        }
+    }
 }
 
 impl Entries for Located<'_> {
@@ -161,31 +204,25 @@ impl Entries for Located<'_> {
     ghost count = { λ self. length self.locations.now / 3 };
 
     fn count(&self) -> usize {
-        self.locations.len() / 3
+        AnyLocated::from(*self).count()
     }
 
     fn step(&self) -> usize {
-        0
+        AnyLocated::from(*self).step()
     }
 
-    fn locked_place(&self, _at: usize) -> usize {
-        1
+    fn locked_place(&self, at: usize) -> usize {
+        AnyLocated::from(*self).locked_place(at)
     }
 
-    #[tactic(auto, using(crate::proofs::Next::located_is))]
     fn entry(
         &self,
         who: Caller,
         purpose: Purpose,
         e: usize,
-        _bytes: &[u8],
-        _at: usize,
+        bytes: &[u8],
+        at: usize,
     ) -> Result<Entry, Fault> {
-        let places = Places {
-            point: 1,
-            logical: 1,
-            parameter: 1,
-        };
-        find(who, purpose, tlp_in(self.locations, 3 * e), places)
+        AnyLocated::from(*self).entry(who, purpose, e, bytes, at)
     }
 }

@@ -1,8 +1,11 @@
 //! The lists of parameters that requests have: what each entry names, and who may read or write it.
 #![tactic(auto)]
 
+pub mod any;
 mod entries;
 mod finding;
+#[cfg(test)]
+mod tests;
 
 ghost use Rattle.std.specs.Prelude.{◌≡◌, ◌<◌};
 ghost use Rattle.points.specs.Columns.{row_at};

@@ -5,7 +5,7 @@ use Rattle.base.specs.Check.{Check, fault, pass, ◌>>=◌}
 use Rattle.faults.specs.Faults.{number_of}
 use Rattle.faults.specs.declared.Fault.{Fault}
 use Rattle.points.specs.Types.{gateway, tables, logicals, index_of}
-use Rattle.lists.specs.declared.entries.Block.{Block}
+use Rattle.lists.specs.declared.any.AnyBlock.{AnyBlock}
 use Rattle.rules.specs.Deeds.{Piece, plain, held}
 use Rattle.rules.specs.Opcodes.{spans, locates}
 
@@ -16,10 +16,10 @@ pub record Run : Type 0 where
   pub start : ℕ
   pub count : ℕ
 
-abbrev pub run_of : Block → Run
+abbrev pub run_of : AnyBlock → Run
 run_of block = record { index = block.index; logical = block.logical.0; start = block.start.0; count = block.count.0 }
 
-abbrev pub block_check : Result Block Fault → Check Run
+abbrev pub block_check : Result AnyBlock Fault → Check Run
 block_check (Ok block) = pass (run_of block)
 block_check (Err f) = fault (number_of f.refusal) f.place
 
@@ -38,7 +38,7 @@ unfoldable pub block_pieces : Run → List ℕ → List Piece
 block_pieces run d = held run.index run.logical run.start run.count ∷ plain (take 4 d) ∷ []
 
 -- what is known of the locations that a request names
-pub record IsTable (d : List ℕ) (block : Block) : Type 0 where
+pub record IsTable (d : List ℕ) (block : AnyBlock) : Type 0 where
   pub long : 3 ≤ length d
   pub table : get_or d 0 0 < logicals gateway tables
   pub type : block.index ≡ tables

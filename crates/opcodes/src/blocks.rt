@@ -12,13 +12,13 @@ use crate::held::values_in;
 use crate::{Request, walks};
 use faults::{Fault, Refusal, require};
 use frame::Reply;
-use lists::Block;
+use lists::any::AnyBlock;
 use points::{Count, Logical, Parameter, PointType};
 use store::Store;
 
 /// The block that the data name. The third byte is the count and the fourth the start.
 #[tactic(auto, unfolding(crate::specs::Blocks::spanned, rules::specs::Opcodes::spans, points::specs::There::there, base::specs::Check::checks), using(points::proofs::Cases::no_type, points::proofs::Cases::of_type, crate::proofs::Spans::some_height, crate::proofs::Spans::last_end))]
-fn span(request: &Request) -> Result<Block, Fault>
+fn span(request: &Request) -> Result<AnyBlock, Fault>
     ensures is { block_check result ≡ spanned request.now.bytes.now }
     ensures some { IfOk result (λ block. 1 ≤ block.count.0) }
     ensures run { IfOk result (λ block. Run block.index block.logical.0 block.start.0 block.count.0) }
@@ -36,7 +36,7 @@ fn span(request: &Request) -> Result<Block, Fault>
     let end = bytes[3] as usize + bytes[2] as usize;
     let height = points::height_of(index) as usize;
     require(end <= height, Refusal::NoParameter, 3)?;
-    Ok(Block {
+    Ok(AnyBlock {
         index,
         logical: Logical(bytes[1]),
         start: Parameter(bytes[3]),

@@ -10,19 +10,19 @@ ghost use Rattle.opcodes.specs.Walks.{named_list};
 use crate::{Request, walks};
 use faults::{Fault, Refusal, require};
 use frame::Reply;
-use lists::Named;
+use lists::any::AnyNamed;
 use store::Store;
 
 /// The list that the data name: how many parameters.
 #[tactic(auto, unfolding(crate::specs::Walks::named_list, rules::specs::Opcodes::counted, base::specs::Check::checks))]
-fn count(request: &Request) -> Result<Named, Fault>
+fn count(request: &Request) -> Result<AnyNamed, Fault>
     ensures is { check_of result ≡ named_list request.now.bytes.now }
     ensures some { IfOk result (λ list. 1 ≤ length request.now.bytes.now) }
     ensures few { IfOk result (λ list. list.count ≤ 255) }
 {
     require(1 <= request.bytes.len(), Refusal::Length, 0)?;
     require(request.bytes[0] != 0, Refusal::CountZero, 0)?;
-    Ok(Named {
+    Ok(AnyNamed {
         count: request.bytes[0] as usize,
     })
 }

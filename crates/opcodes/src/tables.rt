@@ -11,7 +11,7 @@ use crate::held::values_in;
 use crate::{Request, walks};
 use faults::{Fault, Refusal, require};
 use frame::Reply;
-use lists::{Block, Located};
+use lists::any::{AnyBlock, AnyLocated};
 use points::{Count, Logical, Parameter};
 use store::Store;
 
@@ -23,7 +23,7 @@ const WHOLE: usize = 132;
 
 /// Sixteen tables with locations 1 to 44 each. A location is a parameter of its table.
 #[tactic(auto, unfolding(crate::specs::Blocks::table_block, rules::specs::Opcodes::locates, base::specs::Check::checks, points::specs::Types::logicals, points::specs::Types::gateway, points::specs::Types::point, points::specs::Types::points, points::specs::Rows::rows99))]
-fn locate(request: &Request) -> Result<Block, Fault>
+fn locate(request: &Request) -> Result<AnyBlock, Fault>
     ensures is { block_check result ≡ table_block request.now.bytes.now }
     ensures table { IfOk result (λ block. IsTable request.now.bytes.now block) }
 {
@@ -35,7 +35,7 @@ fn locate(request: &Request) -> Result<Block, Fault>
     require(count != 0, Refusal::CountZero, 2)?;
     let end = start as usize + count as usize;
     require(end <= 45, Refusal::OutsideTable, 2)?;
-    Ok(Block {
+    Ok(AnyBlock {
         index: TABLES,
         logical: Logical(table),
         start: Parameter(start),
@@ -56,7 +56,7 @@ pub fn read(
     ensures space { (c : List ℕ) → reply.new ≡ space_by aloud store.now reply.old (plan10 gateway request.now.level (held store.now c) request.now.bytes.now) }
 {
     let locations = values_in(store, locate(request)?);
-    let entries = Located { locations };
+    let entries = AnyLocated { locations };
     walks::read(&entries, request, 3, store, aloud, reply)
 }
 
@@ -78,7 +78,7 @@ pub fn write(request: &Request, store: &mut Store) -> Result<(), Fault>
     ensures store { (c : List ℕ) → store.new ≡ store_by store.old (plan11 gateway request.now.level (held store.old c) request.now.bytes.now) }
 {
     let mut places = [0; WHOLE];
-    let entries = Located {
+    let entries = AnyLocated {
         locations: copy(values_in(store, locate(request)?), &mut places),
     };
     walks::write(&entries, request, 3, store)

@@ -11,13 +11,13 @@ ghost use Rattle.opcodes.specs.Walks.{telling_all, keeping_all};
 use crate::Request;
 use faults::Fault;
 use frame::Reply;
-use lists::Entries;
-use reads::Readable;
+use lists::any::AnyEntries;
+use reads::any::AnyReadable;
 use store::Store;
 
 /// The values of the list, told from place 6 of the reply on unless the request is a broadcast, and how many data bytes that makes.
 #[tactic(auto, unfolding(crate::specs::Walks::telling_all, base::specs::Check::checks))]
-pub fn read<E: Readable>(
+pub fn read<E: AnyReadable>(
     entries: &E,
     request: &Request,
     from: usize,
@@ -34,14 +34,14 @@ pub fn read<E: Readable>(
     let who = request.caller();
     let size = reads::check(entries, who, request.bytes, from)?;
     if aloud {
-        reads::tell(entries, who, request.bytes, from, store, reply);
+        reads::tell_any(entries, who, request.bytes, from, store, reply);
     }
     Ok(size)
 }
 
 /// The values that the data carry, stored if each may be.
 #[tactic(auto, unfolding(crate::specs::Walks::keeping_all, base::specs::Check::checks))]
-pub fn write<E: Entries>(
+pub fn write<E: AnyEntries>(
     entries: &E,
     request: &Request,
     from: usize,

@@ -24,10 +24,10 @@ use Rattle.rules.specs.Entries.{Named, Source, spoken, after, next}
 use Rattle.rules.specs.Deeds.{Piece, plain, held, told, shown, sizes}
 use Rattle.rules.specs.Lists.{read_level, ends, fitting, reading}
 use Rattle.rules.proofs.Found.{Stands}
-use Rattle.lists.specs.Walks.{taken, Standing, entry_of, entry_check}
+use Rattle.lists.specs.Walks.{taken, AnyStanding, entry_of, entry_check}
 use Rattle.lists.proofs.Next.{ended}
 use Rattle.lists.proofs.Taken.{taken_none}
-use Rattle.lists.proofs.Stood.{next_stands, standing_after, spoken_there, entry_passes, passed_on}
+use Rattle.lists.proofs.Stood.{next_stands, any_standing_after, spoken_there, entry_passes, passed_on}
 use Rattle.reads.specs.Telling.{sized, pieces_of, Passes, sizing, telling}
 use Rattle.reads.proofs.Spans.{span_one}
 use Rattle.reads.proofs.Turns.{turn}
@@ -150,7 +150,7 @@ module _ (who : rules.Caller) (s r : List ℕ) (d : List ℕ) (whole : length s 
   pub fits_255 : (n : ℕ) (src : Source) (at : ℕ) (ps : List Piece) {done : List Piece} → at ≤ length d → reading gateway who src n (drop at d) at ps ≡ pass done → sizes ps ≤ 255
   fits_255 n src at ps i e = never_over who d n src at (sizes ps) (rw (← walked who d n src at ps i) (passes_of _ e))
 
-  told_walked : (n : ℕ) (src : Source) (at : ℕ) (ps done : List Piece) → Standing src n → at ≤ length d → length (told gateway s ps) ≡ sizes ps
+  told_walked : (n : ℕ) (src : Source) (at : ℕ) (ps done : List Piece) → AnyStanding src n → at ≤ length d → length (told gateway s ps) ≡ sizes ps
       → reading gateway who src n (drop at d) at ps ≡ pass done
       → telling who s src n d at (6 + sizes ps) (put r 6 (told gateway s ps)) ≡ put r 6 (told gateway s done)
   unfolding reading telling entry_of
@@ -160,7 +160,7 @@ module _ (who : rules.Caller) (s r : List ℕ) (d : List ℕ) (whole : length s 
   told_walked (suc n) src at ps done h i long e =
       let x = first_passes (next gateway read_level who src (drop at d) at) e in
       go x.0 x.1.0 (stands_here _ (next_stands read_level who src n (drop at d) at h) x.1.0) (spoken_there read_level who src d at x.1.0) x.1.1
-      (λ at' ps' i' long' e'. told_walked n (after src) at' ps' done (standing_after src n h) i' long' e')
+      (λ at' ps' i' long' e'. told_walked n (after src) at' ps' done (any_standing_after src n h) i' long' e')
     where
       go : (p : Named) → next gateway read_level who src (drop at d) at ≡ pass p → Stands gateway p → spoken src ≤ length d - at
           → reading gateway who (after src) n (drop (spoken src) (drop at d)) (at + spoken src) (told_of (spoken src) (drop at d) p ps) ≡ pass done
@@ -180,7 +180,7 @@ unfolding ◌>>=◌
 pieces_are (fault n p) h = absurd h
 pieces_are (pass ps) h = refl
 
-pub whole_telling : (who : rules.Caller) (s r : List ℕ) (src : Source) (n : ℕ) (d : List ℕ) (at : ℕ) (ps : List Piece) → length s ≡ 12427 → 263 ≤ length r → Standing src n
+pub whole_telling : (who : rules.Caller) (s r : List ℕ) (src : Source) (n : ℕ) (d : List ℕ) (at : ℕ) (ps : List Piece) → length s ≡ 12427 → 263 ≤ length r → AnyStanding src n
     → at ≤ length d → length (told gateway s ps) ≡ sizes ps → Passes (sized (reading gateway who src n (drop at d) at ps))
     → telling who s (taken 0 src) (n - 0) d at (6 + sizes ps) (put r 6 (told gateway s ps)) ≡ put r 6 (told gateway s (pieces_of (reading gateway who src n (drop at d) at ps)))
 whole_telling who s r src n d at ps w space h i long e =

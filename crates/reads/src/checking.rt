@@ -6,13 +6,13 @@ ghost use Rattle.rules.specs.Lists.{reading};
 ghost use Rattle.lists.specs.Walks.{caller_of};
 ghost use Rattle.reads.specs.Telling.{sized};
 
-use crate::Readable;
+use crate::any::AnyReadable;
 use faults::{Fault, Refusal, require};
 use lists::{Caller, Purpose};
 
 /// Every entry in turn: type, logical, parameter, level; then spare bytes, then the size of the reply. How many data bytes the reply has.
 #[tactic(auto, unfolding(base::specs::Check::checks), using(crate::proofs::Turns::turn, crate::proofs::Turns::end, crate::proofs::Whole::whole_sizing))]
-pub fn check<E: Readable>(
+pub fn check<E: AnyReadable>(
     entries: &E,
     who: Caller,
     bytes: &[u8],

@@ -1,58 +1,67 @@
-//! What the reply to a list that is read begins with.
-ghost use Rattle.std.specs.Prelude.{◌≡◌, ◌≤◌, ◌<◌, ◌/◌, ℕ, List, [], ◌∷◌, length, get_or, take};
+//! What the reply to a list of at most 255 entries begins with.
+ghost use Rattle.std.specs.Prelude.{◌≡◌, ◌≤◌, ◌<◌, ℕ, List, [], ◌∷◌, length, get_or, take};
 ghost use Rattle.base.specs.Lists.{put};
 ghost use Rattle.points.specs.Types.{gateway, logicals, tables};
 ghost use Rattle.rules.specs.Deeds.{Piece, plain, held, sizes, told};
 
+use crate::any::AnyReadable;
 use frame::Reply;
+use lists::any::{AnyLocated, AnyNamed};
 use lists::{Entries, Located, Named};
-use points::{Logical, Parameter};
 use store::Store;
 
-/// The index of the point type of the tables.
-const TABLES: usize = 2;
-
-/// A list that can be read: its reply repeats the request's first bytes, and may say more before its first entry.
+/// A list of at most 255 entries that can be read: its reply repeats the request's first bytes, and may say more before its first entry.
 pub trait Readable: Entries {
     /// What the reply begins with, for the data of the request.
     ghost opening: { Self → List ℕ → List Piece };
 
-    /// What is known of the list and its data where the list is checked.
+    /// What is known of the data by then.
     ghost ready: { Self → List ℕ → Type 0 };
 
-    /// What is known besides where it is told.
-    ghost tellable: { Self → List ℕ → Type 0 };
-
-    /// How many bytes the reply begins with. A list that is ready has 255 entries at most.
+    /// How many bytes the reply begins with.
     fn opening_size(&self, bytes: &[u8]) -> usize
         requires { ready self.now bytes.now }
         ensures is { result ≡ sizes (opening self.now bytes.now) }
-        ensures small { result ≤ 7 }
-        ensures few { Self.count self.now ≤ 255 };
+        ensures small { result ≤ 7 };
 
     /// Tells them, from place 6 of the reply on.
     fn begin(&self, bytes: &[u8], store: &Store, reply: &mut Reply)
         requires ready { ready self.now bytes.now }
-        requires tellable { tellable self.now bytes.now }
         ensures is { reply.new ≡ put reply.old 6 (told gateway store.now (opening self.now bytes.now)) }
         ensures long { length (told gateway store.now (opening self.now bytes.now)) ≡ sizes (opening self.now bytes.now) };
+}
+
+/// All that such a list asks is known where it is checked, and its count says that it has 255 entries at most.
+impl<E: Readable> AnyReadable for E {
+    ghost opening = { λ self d. E.opening self d };
+
+    ghost ready = { λ self d. E.ready self d };
+
+    ghost tellable = { λ self d. Unit {0} };
+
+    fn opening_size(&self, bytes: &[u8]) -> usize {
+        // For what its clause `few` says.
+        let _count = Entries::count(self);
+        Readable::opening_size(self, bytes)
+    }
+
+    fn begin(&self, bytes: &[u8], store: &Store, reply: &mut Reply) {
+        Readable::begin(self, bytes, store, reply);
+    }
 }
 
 /// The count byte.
 impl Readable for Named {
     ghost opening = { λ self d. plain (take 1 d) ∷ [] };
 
-    ghost ready = { λ self d. (1 ≤ length d) × (self.count ≤ 255) };
+    ghost ready = { λ self d. 1 ≤ length d };
 
-    ghost tellable = { λ self d. Unit {0} };
-
-    fn opening_size(&self, _bytes: &[u8]) -> usize {
-        1
+    fn opening_size(&self, bytes: &[u8]) -> usize {
+        AnyNamed::from(*self).opening_size(bytes)
     }
 
-    #[tactic(auto, unfolding(rules::specs::Deeds::told, rules::specs::Deeds::shown))]
-    fn begin(&self, bytes: &[u8], _store: &Store, reply: &mut Reply) {
-        store::tell(reply, 6, &bytes[..1]);
+    fn begin(&self, bytes: &[u8], store: &Store, reply: &mut Reply) {
+        AnyNamed::from(*self).begin(bytes, store, reply);
     }
 }
 
@@ -60,19 +69,13 @@ impl Readable for Named {
 impl Readable for Located<'_> {
     ghost opening = { λ self d. held tables (get_or d 0 0) 0 1 ∷ plain (take 3 d) ∷ [] };
 
-    ghost ready = { λ self d. (3 ≤ length d) × (length self.locations.now / 3 ≤ 255) };
+    ghost ready = { λ self d. (3 ≤ length d) × (get_or d 0 0 < logicals gateway tables) };
 
-    ghost tellable = { λ self d. get_or d 0 0 < logicals gateway tables };
-
-    #[tactic(auto, using(crate::proofs::Opened::table_opening))]
-    fn opening_size(&self, _bytes: &[u8]) -> usize {
-        7
+    fn opening_size(&self, bytes: &[u8]) -> usize {
+        AnyLocated::from(*self).opening_size(bytes)
     }
 
-    #[tactic(auto, using(crate::proofs::Opened::revision_here, crate::proofs::Opened::table_opened, crate::proofs::Opened::table_long))]
     fn begin(&self, bytes: &[u8], store: &Store, reply: &mut Reply) {
-        let revision = points::spot_at(TABLES, Logical(bytes[0]), Parameter(0));
-        store::tell(reply, 6, &bytes[..3]);
-        store::tell(reply, 9, store::value_in(store, revision));
+        AnyLocated::from(*self).begin(bytes, store, reply);
     }
 }

@@ -7,14 +7,14 @@ use Rattle.faults.specs.declared.Refusal.{Refusal}
 use Rattle.points.specs.Types.{gateway, index_of}
 use Rattle.points.specs.Place.{place_of}
 use Rattle.points.specs.There.{there}
-use Rattle.lists.specs.declared.entries.Block.{Block}
+use Rattle.lists.specs.declared.any.AnyBlock.{AnyBlock}
 
 pub record One : Type 0 where
   pub index : ℕ
   pub logical : ℕ
   pub start : ℕ
 
-abbrev pub one_of : Result Block Refusal → Check One
+abbrev pub one_of : Result AnyBlock Refusal → Check One
 one_of (Ok block) = pass (record { index = block.index; logical = block.logical.0; start = block.start.0 })
 one_of (Err refusal) = fault (number_of refusal) 0
 

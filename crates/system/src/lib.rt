@@ -8,13 +8,14 @@ ghost use Rattle.rules.specs.System.{system_write, setting, leaving};
 ghost use Rattle.system.specs.One.{one_of, named};
 
 use faults::{Refusal, refuse_unless};
-use lists::{Block, Caller};
+use lists::Caller;
+use lists::any::AnyBlock;
 use points::{Count, Tlp};
 use store::Store;
 
 /// The list of one that three numbers name.
 #[tactic(auto, unfolding(crate::specs::One::named, points::specs::There::there, base::specs::Check::checks), using(points::proofs::Cases::no_type, points::proofs::Cases::of_type))]
-fn one(tlp: Tlp) -> Result<Block, Refusal>
+fn one(tlp: Tlp) -> Result<AnyBlock, Refusal>
     ensures is { one_of result ≡ named tlp.point.0 tlp.logical.0 tlp.parameter.0 }
     ensures one { IfOk result (λ block. block.count.0 ≡ 1) }
 {
@@ -23,7 +24,7 @@ fn one(tlp: Tlp) -> Result<Block, Refusal>
     refuse_unless(tlp.logical.0 < logicals, Refusal::NoLogical)?;
     let height = points::height_of(index);
     refuse_unless(tlp.parameter.0 < height, Refusal::NoParameter)?;
-    Ok(Block {
+    Ok(AnyBlock {
         index,
         logical: tlp.logical,
         start: tlp.parameter,

@@ -25,10 +25,10 @@ use Rattle.rules.specs.Entries as rules
 use Rattle.rules.specs.Entries.{Named, Source, block, named, located, request, system, may_write, spoken, after, next, locked_place}
 use Rattle.rules.specs.Lists.{write_level, ends, entry, accepts, writing}
 use Rattle.rules.proofs.Found.{Stands}
-use Rattle.lists.specs.Walks.{taken, Standing, entry_of, entry_check}
+use Rattle.lists.specs.Walks.{taken, AnyStanding, entry_of, entry_check}
 use Rattle.lists.proofs.Taken.{taken_none}
 use Rattle.lists.proofs.Next.{leb_moved, ended}
-use Rattle.lists.proofs.Stood.{next_stands, standing_after, spoken_there, entry_passes, passed_on}
+use Rattle.lists.proofs.Stood.{next_stands, any_standing_after, spoken_there, entry_passes, passed_on}
 use Rattle.writes.specs.Walked.{Alone, passed_of, writes_of, checking, keeping}
 use Rattle.writes.proofs.Mates.{Free, Earlier}
 use Rattle.writes.proofs.Accepting.{code_chain, accepts_is}
@@ -119,13 +119,13 @@ module _ (who : rules.Caller) (s : List ℕ) (d : List ℕ) where
           room : leb len (length D) ≡ true → at + sp + len ≤ length d
           room et = let y = leb-true _ _ et in omega (arith, left)
 
-    walked : (n : ℕ) (src : Source) (at : ℕ) (ws : List Write) → Standing src n → Room who n ws → All (Sound gateway) ws → at ≤ length d
+    walked : (n : ℕ) (src : Source) (at : ℕ) (ws : List Write) → AnyStanding src n → Room who n ws → All (Sound gateway) ws → at ≤ length d
         → passed_of (writing gateway who s src n (drop at d) at ws) ≡ checking who s src n d at
     unfolding writing checking ends ◌>>=◌ entry_check entry_of
     walked zero src at ws h r o i = rw (ended d at) (tested_last (leb (length d) at) 21 at ws)
     walked (suc n) src at ws h r o i =
         go (next gateway write_level who src (drop at d) at) (next_stands write_level who src n (drop at d) at h) (λ p e. spoken_there write_level who src d at e)
-        (λ at' ws' r' o' i'. walked n (after src) at' ws' (standing_after src n h) r' o' i')
+        (λ at' ws' r' o' i'. walked n (after src) at' ws' (any_standing_after src n h) r' o' i')
       where
         go : (c : Check Named) → Holds (Stands gateway) c → ((p : Named) → c ≡ pass p → spoken src ≤ length d - at)
             → ((at' : ℕ) (ws' : List Write) → Room who n ws' → All (Sound gateway) ws' → at' ≤ length d
@@ -142,7 +142,7 @@ module _ (who : rules.Caller) (s : List ℕ) (d : List ℕ) where
         go (pass p) (passing w) f ih = found_turn n src at ws r o i p w (f p refl) ih
 
 -- as the code begins
-pub whole_checking : (who : rules.Caller) (s : List ℕ) (src : Source) (n : ℕ) (d : List ℕ) (at : ℕ) → length s ≡ 12427 → Standing src n → Alone who n → at ≤ length d
+pub whole_checking : (who : rules.Caller) (s : List ℕ) (src : Source) (n : ℕ) (d : List ℕ) (at : ℕ) → length s ≡ 12427 → AnyStanding src n → Alone who n → at ≤ length d
     → checking who s (taken 0 src) (n - 0) d at ≡ passed_of (writing gateway who s src n (drop at d) at [])
 whole_checking who s src n d at w h a i =
     let z : n - 0 ≡ n = omega arith in

@@ -7,13 +7,14 @@ ghost use Rattle.lists.specs.Walks.{caller_of};
 ghost use Rattle.writes.specs.Walked.{Alone, passed_of};
 
 use faults::{Fault, Refusal, require};
-use lists::{Caller, Entries, Purpose};
+use lists::any::AnyEntries;
+use lists::{Caller, Purpose};
 use points::Kind;
 use store::Store;
 
 /// Every entry in turn: found, read-only, short, in its range; then spare bytes. Checking stops at the first fault found.
 #[tactic(auto, unfolding(base::specs::Check::checks), using(crate::proofs::Turns::turn, crate::proofs::Turns::end, crate::proofs::Turns::letter, crate::proofs::Turns::no_letter, crate::proofs::Texts::weighs_text, crate::proofs::Whole::whole_checking))]
-pub fn check<E: Entries>(
+pub fn check<E: AnyEntries>(
     entries: &E,
     who: Caller,
     bytes: &[u8],

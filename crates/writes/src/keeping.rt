@@ -7,12 +7,13 @@ ghost use Rattle.rules.specs.Lists.{writing};
 ghost use Rattle.lists.specs.Walks.{caller_of};
 ghost use Rattle.writes.specs.Walked.{Alone, passed_of, writes_of};
 
-use lists::{Caller, Entries, Purpose};
+use lists::any::AnyEntries;
+use lists::{Caller, Purpose};
 use store::Store;
 
 /// Every value of a list that passed its check, stored.
 #[tactic(auto, unfolding(base::specs::Check::checks), using(crate::proofs::Turns::turn, crate::proofs::Turns::keep_turn, crate::proofs::Turns::keep_end, crate::proofs::Whole::whole_checking, crate::proofs::Whole::whole_keeping))]
-pub fn keep<E: Entries>(entries: &E, who: Caller, bytes: &[u8], from: usize, store: &mut Store)
+pub fn keep<E: AnyEntries>(entries: &E, who: Caller, bytes: &[u8], from: usize, store: &mut Store)
     requires short { length bytes.now ≤ 255 }
     requires within { from ≤ length bytes.now }
     requires alone { Alone (caller_of who) (E.count entries.now) }

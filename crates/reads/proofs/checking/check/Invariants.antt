@@ -8,11 +8,11 @@ use Rattle.reads.proofs.checking.check.Given as goal
 
 abbrev pub invariant-loop-e : goal.invariant-loop-e
 invariant-loop-e g l =
-    let source = g.E.Entries.source l.entries in
+    let source = g.E.AnyEntries.source l.entries in
     let who = caller_of l.who in
     record {
       rest : sizing who (taken l.e source) (l.e-end - l.e) l.bytes l.at l.size
-          ≡ sized (reading gateway who source l.e-end (drop l.from l.bytes) l.from (g.E.Readable.opening l.entries l.bytes));
+          ≡ sized (reading gateway who source l.e-end (drop l.from l.bytes) l.from (g.E.AnyReadable.opening l.entries l.bytes));
       within : l.at ≤ length l.bytes;
       small : l.size ≤ 7 + 43 * l.e;
     }

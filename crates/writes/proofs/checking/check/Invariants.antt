@@ -11,7 +11,7 @@ invariant-loop-byte g l = printing (drop l.byte-index l.value) l.start ≡ print
 
 abbrev pub invariant-loop-e : goal.invariant-loop-e
 invariant-loop-e g l =
-    let source = g.E.Entries.source l.entries in
+    let source = g.E.AnyEntries.source l.entries in
     record {
       rest : checking (caller_of l.who) l.store (taken l.e source) (l.e-end - l.e) l.bytes l.at
           ≡ passed_of (writing gateway (caller_of l.who) l.store source l.e-end (drop l.from l.bytes) l.from []);

@@ -10,7 +10,7 @@ use Rattle.writes.proofs.keeping.keep.Given as goal
 
 abbrev pub invariant-loop-e : goal.invariant-loop-e
 invariant-loop-e g l =
-    let source = g.E.Entries.source l.entries in
+    let source = g.E.AnyEntries.source l.entries in
     let who = caller_of l.who in
     record {
       passes : checking who l.fn.store (taken l.e source) (l.e-end - l.e) l.bytes l.at ≡ pass tt;

@@ -1,7 +1,7 @@
 -- The entry and its value have room in the reply, since the check of them passed.
 use Rattle.std.proofs.Common.{sym, arith, length-take, length-drop}
 use Rattle.reads.proofs.Whole.{room_next}
-use Rattle.reads.proofs.telling.tell.Goals as goal
+use Rattle.reads.proofs.telling.tell_any.Goals as goal
 
 pub tell_entry-to-requires : goal.tell_entry-to-requires
 tell_entry-to-requires g c =
